@@ -259,7 +259,7 @@ final_told : (goal : Option Goal) (options : Options) (input : Input) (m n : ℕ
 final_told None options input m n made final told h = subst (λ (o : Outputs). All TellsFailure (in_order o.texts)) (sym h.1) told
 final_told (Some goal) options input m n made final told h =
     let refined = h.1.2.2 in
-    subst (λ (o : Outputs). All TellsFailure (in_order o.texts)) (sym refined.4.2) (outputs_told (at_decimals n options) refined.2 refined.4.0 refined.4.1)
+    subst (λ (o : Outputs). All TellsFailure (in_order o.texts)) (sym refined.5.2) (outputs_told (at_decimals n options) refined.2 refined.5.0 refined.5.1)
 
 model_told : (words : List (List ℕ)) (folder : FolderSeen) (outputs : Outputs) → OutputsOfModel words folder (Ok outputs) → All TellsFailure (in_order outputs.texts)
 model_told words folder outputs h =

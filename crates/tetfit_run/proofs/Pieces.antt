@@ -16,31 +16,13 @@ use Rattle.tetgen_run.proofs.Refusals.{IsRefusal}
 use Rattle.tetgen_run.specs.Ends.{FinishesSo, IsToldAs, StopsSo, answer_of}
 use Rattle.tetgen_run.specs.declared.stop.Stop.{Stop}
 use Rattle.tetgen_run.specs.declared.stop.Stop.TheVariants.{Refused, Unwritten, Unsummed, NoMemory as Wanting}
-use Rattle.tetfit_run.specs.Stages.{AreStagesPut, IsCut, IsMadeAt}
-
-pub piece_append : (w : Option (List ℕ)) (a b : List ℕ) → with_written (with_written w a) b ≡ with_written w (a ++ b)
-piece_append None a b = refl
-piece_append (Some w) a b = ap Some (append_assoc w a b)
+use Rattle.refining.specs.declared.watch.Round.{Round}
+use Rattle.tetfit_run.specs.Said.{nothing_put, partly_first, partly_second, piece_append, rose_later, said_both}
+use Rattle.tetfit_run.specs.Stages.{AreStagesPut, IsMadeAt, IsSaid, rounds_text, stage_text}
 
 -- a line with no hint and no help behind it
 pub nothing_behind : (line : List ℕ) → line ++ [] ++ [] ≡ line
 nothing_behind line = append-nil (line ++ []) ∙ append-nil line
-
-prefix_of : (k : ℕ) (a b : List ℕ) → take (length (take k a)) (a ++ b) ≡ take k a
-prefix_of k a b =
-    let p = take k a in
-    ap (λ l. take (length p) (l ++ b)) (sym (take-append-drop k a)) ∙ ap (take (length p)) (append_assoc p (drop k a) b) ∙ take-append_seam p (drop k a ++ b)
-
--- a prefix of the first is one of both
-pub partly_first : (w now : Option (List ℕ)) (a b : List ℕ) → PartlyPut w a now → PartlyPut w (a ++ b) now
-partly_first w now a b h = (length (take h.0 a), h.1 ∙ ap (with_written w) (sym (prefix_of h.0 a b)))
-
--- the first whole and a prefix of the second are a prefix of both
-pub partly_second : (w now : Option (List ℕ)) (a b : List ℕ) → PartlyPut (with_written w a) b now → PartlyPut w (a ++ b) now
-partly_second w now a b h = (length a + h.0, h.1 ∙ piece_append w a (take h.0 b) ∙ ap (with_written w) (sym (take-append-add a b h.0)))
-
-rose_later : (a b c : ℕ) → c ≤ a → Rose a b → Rose c b
-rose_later a b c h r = omega arith
 
 -- a sink that took the first piece whole, and then the second so
 pub put_after : (front back : List ℕ) (before mid now : Option (List ℕ)) (fb fm fn wb wm wn : ℕ) → mid ≡ with_written before front → fb ≤ fm → wb ≤ wm
@@ -49,10 +31,6 @@ pub put_after : (front back : List ℕ) (before mid now : Option (List ℕ)) (fb
 put_after front back before mid now fb fm fn wb wm wn e f w (inl h) = inl (h ∙ ap (λ s. with_written s back) e ∙ piece_append before front back)
 put_after front back before mid now fb fm fn wb wm wn e f w (inr (p, inl r)) = inr (partly_second before now front back (subst (λ s. PartlyPut s back now) e p), inl (rose_later fm fn fb f r))
 put_after front back before mid now fb fm fn wb wm wn e f w (inr (p, inr r)) = inr (partly_second before now front back (subst (λ s. PartlyPut s back now) e p), inr (rose_later wm wn wb w r))
-
-nothing_put : (w : Option (List ℕ)) → with_written w [] ≡ w
-nothing_put None = refl
-nothing_put (Some w) = ap Some (append-nil w)
 
 -- a sink that refused the first piece
 pub put_front : {T : Type 0} (front back : List ℕ) (before now : Option (List ℕ)) (fb fn wb wn : ℕ) (fault : PutFault) (r : Result T PutFault) → r ≡ Err fault
@@ -63,26 +41,21 @@ put_front front back before now fb fn wb wn PutNoMemory r e failed partly wantin
 
 -- ---- stages
 
--- a sink from one state to a later one
-abbrev pub between : SinkState → SinkState → SinkSeen
-between old now = sink_seen (λ s. s) old now
+-- a stage, and the rounds behind it
+pub rounds_said : (says s t x y z : Bool) (first : List ℕ) (rounds : List Round) (old start mid now : SinkState) → x ≡ true → s ≡ says → t ≡ s → start ≡ old → IsSaid x y (stage_text s first) start mid
+    → IsSaid y z (stage_text t (rounds_text rounds)) mid now → IsSaid true z (stage_text says first ++ stage_text says (rounds_text rounds)) old now
+rounds_said says s t x y z first rounds old start mid now on is same from p q =
+    let a = subst (λ b. IsSaid b y (stage_text s first) start mid) on p in
+    let b = subst (λ k. IsSaid true y (stage_text k first) start mid) is a in
+    let c = subst (λ k. IsSaid true y (stage_text says first) k mid) from b in
+    let d = subst (λ k. IsSaid y z (stage_text k (rounds_text rounds)) mid now) (same ∙ is) q in
+    said_both true y z (stage_text says first) (stage_text says (rounds_text rounds)) old mid now c d
 
--- a stage that is said is put
-pub stage_put : (text : List ℕ) (err : SinkSeen) (all : Bool) → (all ≡ true → err.written_now ≡ with_written err.written_before text) → (all ≡ false → IsCut text err) → IsMessagePut text err
-stage_put text err true whole cut = inl (whole refl)
-stage_put text err false whole cut = inr (cut refl)
-
--- both stages, of which the second is not said where the first is cut
-pub first_cut : (front back : List ℕ) (err : SinkSeen) → IsCut front err → IsMessagePut (front ++ back) err
-first_cut front back err h = inr (partly_first err.written_before err.written_now front back h.0, h.1)
-
--- the second is said where the first was put whole
-pub both_put : (front back : List ℕ) (all : Bool) (old mid now : SinkState) → (all ≡ true → mid.written ≡ with_written old.written front) → (all ≡ false → IsCut front (between old mid))
-    → old.faults ≤ mid.faults → old.wants ≤ mid.wants → (all ≡ true → IsMessagePut back (between mid now)) → (all ≡ false → now ≡ mid) → IsMessagePut (front ++ back) (between old now)
-both_put front back true old mid now whole cut f w said kept =
-    put_after front back old.written mid.written now.written old.faults mid.faults now.faults old.wants mid.wants now.wants (whole refl) f w (said refl)
-both_put front back false old mid now whole cut f w said kept =
-    subst (λ s. IsMessagePut (front ++ back) (between old s)) (sym (kept refl)) (first_cut front back (between old mid) (cut refl))
+-- and one more stage behind them
+pub stage_said : (says t z w : Bool) (front last : List ℕ) (old mid now : SinkState) → t ≡ says → IsSaid true z front old mid → IsSaid z w (stage_text t last) mid now
+    → IsSaid true w (front ++ stage_text says last) old now
+stage_said says t z w front last old mid now is p q =
+    said_both true z w front (stage_text says last) old mid now p (subst (λ k. IsSaid z w (stage_text k last) mid now) is q)
 
 -- where a step refuses, not all texts were made
 refused_unmade : (s : Status) → IsRefusal s → IsMadeAt s false
@@ -110,4 +83,4 @@ finished_made outputs folder out (Err Wanting) h = tt
 pub stages_told : (message : Option Numbering → Status → List ℕ) (words : List (List ℕ)) (stop : Stop) (first err : SinkSeen) (s : Status) → IsToldAs message stop err s → AreStagesPut words (answer_of (Err stop)) first
     → AreStagesPut words s first
 stages_told message words stop first err s (inl told) h = subst (λ q. AreStagesPut words q first) (sym told.0) h
-stages_told message words stop first err s (inr told) h = subst (λ q. AreStagesPut words q first) (sym told.0) (h.0, tt, h.2)
+stages_told message words stop first err s (inr told) h = subst (λ q. AreStagesPut words q first) (sym told.0) (h.0, h.1, tt, h.3)

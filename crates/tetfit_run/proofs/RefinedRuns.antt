@@ -50,11 +50,12 @@ refined_mesh_by goal limits options Understood Read input outputs understood rea
       halvings = refined.1;
       mesh = mesh;
       made = refined.3;
+      corners = refined.4;
       whole = subst (λ (m : Meshed). IsMesh (carving_of options.keep_hull) m.points m.triangles m.complex.holes m.tetrahedra) (sym is) with_them.mesh.mesh;
-      written = refined.4.0;
-      outputs_are = refined.4.1;
-      only = λ other on. outputs_same options mesh other refined.4.0 on refined.4.1;
-      counts = refined.4.2;
+      written = refined.5.0;
+      outputs_are = refined.5.1;
+      only = λ other on. outputs_same options mesh other refined.5.0 on refined.5.1;
+      counts = refined.5.2;
       determined = subst (IsDetermined options) (sym is)
           (complex_determined_on (options_with refined.1 options) (bound.table.points ++ refined.0) options bound made h.1.0.folded (begins_with options bound refined.0 refined.1 made with_them) with_them.mesh);
     }

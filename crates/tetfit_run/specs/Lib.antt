@@ -3,6 +3,7 @@ pub mod Outputs
 pub mod Refined
 pub mod Run
 pub mod Stages
+pub mod Said
 pub mod Words
 pub mod Reasons
 pub mod Texts

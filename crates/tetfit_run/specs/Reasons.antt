@@ -2,14 +2,14 @@
 use Rattle.std.specs.Prelude.{ℕ, ◌-◌, ◌==◌, nat_eq, nat_lt, length, List, [], codes, if◌then◌else◌}
 use Rattle.std.specs.List.{slice_index_or, starts_with}
 use Rattle.command_words.specs.Grammar.{is_cluster, is_long}
-use Rattle.tetfit_run.specs.Words.{is_ratio, is_volume, keeps_boundary}
+use Rattle.tetfit_run.specs.Words.{is_shape, is_volume, keeps_boundary}
 use Rattle.tetfit_run.specs.declared.reason.Reason.{Reason}
-use Rattle.tetfit_run.specs.declared.reason.Reason.TheVariants.{Ratios, Ratio, Volumes, Volume, Sizes, Boundary, Order, Insertion, Coarsening, Optimization, Tolerance, Exactness, Crossings, Voronoi, MeditFiles, Weights, Check, OwnWord, Decimals, Sample, Number, NoSwitch, EmptyWord, SecondName, NoName, LongWord, Letter}
+use Rattle.tetfit_run.specs.declared.reason.Reason.TheVariants.{Shapes, Shape, Volumes, Volume, Sizes, Boundary, Order, Insertion, Coarsening, Optimization, Tolerance, Exactness, Crossings, Voronoi, MeditFiles, Weights, Check, OwnWord, Decimals, Sample, Number, NoSwitch, EmptyWord, SecondName, NoName, LongWord, Letter}
 
 -- letters of TetGen that have no meaning here
 abbrev pub reason_of : ℕ → Reason
 reason_of byte =
-    if byte == 113 then Ratios else
+    if byte == 113 then Shapes else
     if byte == 97 then Volumes else
     if byte == 109 then Sizes else
     if byte == 89 then OwnWord else
@@ -30,12 +30,12 @@ reason_of byte =
     if byte == 86 then OwnWord else
     if byte == 104 then OwnWord else Letter
 
--- Why the byte at this place of a cluster, from 1, is not understood. Behind -a a volume is required, behind -q a ratio,
+-- Why the byte at this place of a cluster, from 1, is not understood. Behind -a a volume is required, behind -q a shape,
 -- and behind an S, 83, a number. The word -Y is understood beside one of the first two
 abbrev pub cluster_reason : List ℕ → ℕ → Reason
 cluster_reason word place =
     if is_volume word then Volume else
-    if is_ratio word then Ratio else
+    if is_shape word then Shape else
     if keeps_boundary word then Boundary else
     if slice_index_or word (place - 2) 0 == 83 then Number else
     if nat_lt (place - 1) (length word) then reason_of (slice_index_or word (place - 1) 0) else NoSwitch

@@ -3,12 +3,13 @@ use Rattle.std.specs.Prelude.{ℕ, ◌-◌, ◌&&◌, nat_lt, length, List, [], 
 use Rattle.std.specs.List.{slice_index_or}
 use Rattle.command_words.specs.Grammar.{is_cluster}
 use Rattle.tetfit_run.specs.declared.reason.Reason.{Reason}
-use Rattle.tetfit_run.specs.declared.reason.Reason.TheVariants.{Ratios, Ratio, Volumes, Volume, Sizes, Boundary, Order, Insertion, Coarsening, Optimization, Tolerance, Exactness, Crossings, Voronoi, MeditFiles, Weights, Check, OwnWord, Decimals, Sample, Number, NoSwitch, EmptyWord, SecondName, NoName, LongWord, Letter}
+use Rattle.tetfit_run.specs.declared.reason.Reason.TheVariants.{Shapes, Shape, Volumes, Volume, Sizes, Boundary, Order, Insertion, Coarsening, Optimization, Tolerance, Exactness, Crossings, Voronoi, MeditFiles, Weights, Check, OwnWord, Decimals, Sample, Number, NoSwitch, EmptyWord, SecondName, NoName, LongWord, Letter}
 use Rattle.tetfit_run.specs.Reasons.{why_not}
 
 abbrev pub reason_text : Reason → List ℕ
-reason_text Ratios = codes "a ratio is a word of its own, as -q1.4"
-reason_text Ratio = codes "a ratio from 1 to 100 is wanted, with at most 4 decimals, and a model with facets"
+reason_text Shapes = codes "a ratio is a word of its own, as -q1.4"
+reason_text Shape =
+    codes "a ratio from 1 to 100 with at most 4 decimals is wanted, or with /n behind it, n degrees from 0 to 30, and a model with facets"
 reason_text Volumes = codes "a volume is a word of its own, as -a0.5"
 reason_text Volume = codes "a volume above 0 is wanted, and a model with facets"
 reason_text Sizes = codes "sizes of tetrahedra are not there"
@@ -16,7 +17,7 @@ reason_text Boundary = codes "it goes with -a or -q"
 reason_text Order = codes "a tetrahedron has four corners, and no midpoints"
 reason_text Insertion = codes "points are not added from a list"
 reason_text Coarsening = codes "meshes are not made coarser"
-reason_text Optimization = codes "meshes are not improved"
+reason_text Optimization = codes "tetrahedra are made better by -q"
 reason_text Tolerance = codes "signs are exact, and take no tolerance"
 reason_text Exactness = codes "signs are always exact"
 reason_text Crossings = codes "crossing parts are told without a switch"

@@ -1,11 +1,13 @@
 -- The words of `tetfit`.
-use Rattle.std.specs.Prelude.{◌≡◌, ℕ, ◌+◌, ◌*◌, ◌^◌, pos, unsigned_abs, int_lt, Bool, true, false, not, ◌||◌, ◌&&◌, ◌==◌, nat_eq, nat_le, nat_lt, length, position, drop, filter, List, [], ◌∷◌, ◌++◌, codes, Option, Some, None, IfSome, is_some, option_and_then, unwrap_or, if◌then◌else◌}
+use Rattle.std.specs.Prelude.{◌≡◌, ℕ, ◌+◌, ◌*◌, ◌^◌, pos, unsigned_abs, int_lt, Bool, true, false, not, ◌||◌, ◌&&◌, ◌==◌, nat_eq, nat_le, nat_lt, length, position, take, drop, filter, List, [], ◌∷◌, ◌++◌, codes, Option, Some, None, IfSome, is_some, option_and_then, unwrap_or, if◌then◌else◌}
 use Rattle.std.specs.List.{list_any, starts_with}
 use Rattle.std.specs.Str.{bytes_eq}
 use Rattle.std.specs.Option.{option_map, option_map_or, option_or}
 use Rattle.tet_text.specs.Decimals.{Scaled, decimal_of}
+use Rattle.tet_text.specs.Numbers.{number_of}
 use Rattle.refining.specs.Goals.{IsFineGoal}
 use Rattle.refining.specs.declared.goal.Goal.{Goal}
+use Rattle.refining.specs.declared.goal.Shape.{Shape}
 use Rattle.tet_shapes.specs.declared.shape.Ratio.{Ratio}
 use Rattle.tetfit_run.specs.declared.request.Request.{Request}
 use Rattle.tetfit_run.specs.declared.wanted.Wanted.{Wanted}
@@ -14,7 +16,7 @@ use Rattle.command_words.specs.declared.fault.WordsFault.{WordsFault}
 use Rattle.command_words.specs.declared.fault.WordsFault.TheVariants.{Usage, NoMemory}
 use Rattle.command_words.specs.declared.options.Formats.{Formats}
 use Rattle.command_words.specs.declared.options.Options.{Options}
-use Rattle.command_words.specs.Grammar.{is_cluster, words_fault_within}
+use Rattle.command_words.specs.Grammar.{is_cluster, within, words_fault_within}
 use Rattle.command_words.specs.Meaning.{options_within}
 
 -- ---- words of their own: they ask for the page, for the version, and for the stages to be said
@@ -64,10 +66,11 @@ fit_volume words = last_volume None words
 abbrev pub bounds_volumes : List (List ℕ) → Bool
 bounds_volumes words = is_some (fit_volume words) || list_any asks_limits words
 
--- ---- words that bound the ratio of the circumradius to the shortest edge: -q, alone or with a decimal behind it
+-- ---- words that bound the shape of tetrahedra: -q, then the ratio of the circumradius to the shortest edge, a decimal, where it is
+-- given, and where a slash is behind that, the least dihedral angle that is aimed at, in whole degrees
 
-abbrev pub is_ratio : List ℕ → Bool
-is_ratio word = starts_with nat_eq word (codes "-q")
+abbrev pub is_shape : List ℕ → Bool
+is_shape word = starts_with nat_eq word (codes "-q")
 
 -- the number is from 1 to 100, and has at most 4 decimals
 abbrev pub is_ratio_bound : Scaled → Bool
@@ -86,31 +89,53 @@ plain_ratio = record { over = 2; under = 1 }
 abbrev pub ratio_behind : List ℕ → Option Ratio
 ratio_behind text = if length text == 0 then Some plain_ratio else option_and_then if_ratio_bound (decimal_of text)
 
--- the ratio that the word gives
-abbrev pub ratio_in : List ℕ → Option Ratio
-ratio_in word = if is_ratio word then ratio_behind (drop 2 word) else None
+-- the degrees that this text behind a slash gives: a whole number of at most 30
+abbrev pub degrees_behind : List ℕ → Option ℕ
+degrees_behind text = within 30 (number_of 2 text)
 
--- the last ratio counts
-abbrev pub last_ratio : Option Ratio → List (List ℕ) → Option Ratio
-last_ratio last [] = last
-last_ratio last (word ∷ more) = last_ratio (option_or (ratio_in word) last) more
+-- an angle of 0 degrees is no aim
+abbrev pub angle_of : ℕ → Option ℕ
+angle_of degrees = if degrees == 0 then None else Some degrees
 
-abbrev pub fit_ratio : List (List ℕ) → Option Ratio
-fit_ratio words = last_ratio None words
+-- the byte is a slash
+abbrev pub is_slash : ℕ → Bool
+is_slash byte = byte == 47
 
--- ---- words that say what tetrahedra are to be like: those that bound volumes or ratios, and -Y
+-- the shape that a ratio and degrees give, where both are there
+abbrev pub shape_of : Option Ratio → Option ℕ → Option Shape
+shape_of (Some ratio) (Some degrees) = Some (record { ratio = ratio; angle = angle_of degrees })
+shape_of ratio degrees = None
 
--- the word bounds volumes or ratios
+-- the shape that this text behind -q gives, where its first slash has this place; without one 20 degrees are aimed at
+unfoldable pub shape_around : List ℕ → Option ℕ → Option Shape
+shape_around text None = shape_of (ratio_behind text) (Some 20)
+shape_around text (Some i) = shape_of (ratio_behind (take i text)) (degrees_behind (drop (i + 1) text))
+
+-- the shape that the word gives
+abbrev pub shape_in : List ℕ → Option Shape
+shape_in word = if is_shape word then shape_around (drop 2 word) (position is_slash (drop 2 word)) else None
+
+-- the last shape counts
+abbrev pub last_shape : Option Shape → List (List ℕ) → Option Shape
+last_shape last [] = last
+last_shape last (word ∷ more) = last_shape (option_or (shape_in word) last) more
+
+abbrev pub fit_shape : List (List ℕ) → Option Shape
+fit_shape words = last_shape None words
+
+-- ---- words that say what tetrahedra are to be like: those that bound volumes or shapes, and -Y
+
+-- the word bounds volumes or shapes
 abbrev pub is_bounding : List ℕ → Bool
-is_bounding word = is_volume word || is_ratio word
+is_bounding word = is_volume word || is_shape word
 
 -- the word bounds volumes by something that is no volume
 abbrev pub is_bad_volume : List ℕ → Bool
 is_bad_volume word = (is_volume word && not (asks_limits word)) && not (is_some (volume_in word))
 
--- the word bounds volumes or ratios, and gives no bound
+-- the word bounds volumes or shapes, and gives no bound
 abbrev pub is_bad_bound : List ℕ → Bool
-is_bad_bound word = is_bad_volume word || (is_ratio word && not (is_some (ratio_in word)))
+is_bad_bound word = is_bad_volume word || (is_shape word && not (is_some (shape_in word)))
 
 -- the word asks that no points be added on segments and in facets
 abbrev pub keeps_boundary : List ℕ → Bool
@@ -119,14 +144,14 @@ keeps_boundary word = bytes_eq word (codes "-Y")
 abbrev pub is_of_goal : List ℕ → Bool
 is_of_goal word = is_bounding word || keeps_boundary word
 
--- what the tetrahedra are to be like, where volumes are bounded or a ratio is given
+-- what the tetrahedra are to be like, where volumes or shapes are bounded
 abbrev pub fit_goal : List (List ℕ) → Option Goal
 fit_goal words =
-    if bounds_volumes words || is_some (fit_ratio words) then
+    if bounds_volumes words || is_some (fit_shape words) then
     Some (record {
       bounds_volumes = bounds_volumes words;
       volume = fit_volume words;
-      ratio = fit_ratio words;
+      shape = fit_shape words;
       splits_boundary = not (list_any keeps_boundary words);
     }) else None
 
@@ -216,18 +241,18 @@ plain_fault words =
 abbrev pub among_all : List (List ℕ) → ℕ × ℕ → ℕ × ℕ
 among_all words fault = (if nat_le fault.0 (length (plain_words words)) then fault.0 else length words + 1, fault.1)
 
--- the first word that bounds volumes or ratios
+-- the first word that bounds volumes or shapes
 abbrev pub first_bounding : List (List ℕ) → ℕ
 first_bounding words = unwrap_or (position is_bounding words) 0 + 1
 
--- the fault of words that say what tetrahedra are to be like, each of which is understood: the first that bounds volumes or ratios, where
+-- the fault of words that say what tetrahedra are to be like, each of which is understood: the first that bounds volumes or shapes, where
 -- the model has no facets, and the first -Y, where there is no bound
 unfoldable pub goal_fault : List (List ℕ) → Bool → Option (ℕ × ℕ)
 goal_fault words piecewise =
     if is_some (fit_goal words) then (if piecewise then None else Some (first_bounding words, 3))
     else option_map (λ i. (i + 1, 2)) (position keeps_boundary words)
 
--- The first fault of these words: a word that bounds volumes or ratios and gives no bound, else one of the plain words,
+-- The first fault of these words: a word that bounds volumes or shapes and gives no bound, else one of the plain words,
 -- else one of those that say what tetrahedra are to be like
 abbrev pub fit_fault : List (List ℕ) → Option (ℕ × ℕ)
 fit_fault words =

@@ -1,19 +1,20 @@
 //! Reads what words ask of tetrahedra: bounds on their volume and on their shape.
 
-ghost use Rattle.std.specs.Prelude.{◌≡◌, ◌≤◌, ◌<◌, ◌^◌, true, None, IfSome, IsTrue, position, unsigned_abs};
+ghost use Rattle.std.specs.Prelude.{◌≡◌, ◌≤◌, ◌<◌, ◌^◌, length, true, None, IfSome, IsTrue, position, unsigned_abs};
 ghost use Rattle.std.specs.List.{list_any};
-ghost use Rattle.refining.specs.Goals.{IsFineGoal};
+ghost use Rattle.refining.specs.Goals.{IsFineGoal, IsFineShape};
 ghost use Rattle.tet_shapes.specs.Shape.{IsFine};
 ghost use Rattle.tet_text.specs.Decimals.{Scaled};
-ghost use Rattle.tetfit_run.specs.Words.{asks_limits, first_bounding, fit_goal, fit_ratio, fit_volume, goal_fault};
-ghost use Rattle.tetfit_run.specs.Words.{if_ratio_bound, is_bad_bound, is_bad_volume, is_bound, is_bounding};
-ghost use Rattle.tetfit_run.specs.Words.{is_ratio_bound, keeps_boundary, ratio_behind, ratio_in, volume_in};
+ghost use Rattle.tetfit_run.specs.Words.{angle_of, asks_limits, degrees_behind, first_bounding, fit_goal};
+ghost use Rattle.tetfit_run.specs.Words.{fit_shape, fit_volume, goal_fault, if_ratio_bound, is_bad_bound};
+ghost use Rattle.tetfit_run.specs.Words.{is_bad_volume, is_bound, is_bounding, is_ratio_bound, is_slash};
+ghost use Rattle.tetfit_run.specs.Words.{keeps_boundary, ratio_behind, shape_around, shape_in, shape_of, volume_in};
 
-use crate::request::{asks_limits, is_bounding, is_ratio, is_volume, keeps_boundary};
-use refining::Goal;
+use crate::request::{asks_limits, is_bounding, is_shape, is_volume, keeps_boundary};
+use refining::{Goal, Shape};
 use tet_ports::Words;
 use tet_shapes::Ratio;
-use tet_text::{Decimal, decimal_in};
+use tet_text::{Decimal, decimal_in, read_digits};
 
 /// Whether the number is above 0 and has at most 36 decimals.
 fn is_bound(number: &Decimal) -> bool
@@ -96,13 +97,74 @@ fn ratio_behind(text: &[u8]) -> Option<Ratio>
     if_ratio_bound(&number)
 }
 
-/// The ratio that the word gives.
-fn ratio_in(word: &[u8]) -> Option<Ratio>
-    ensures value { result ≡ ratio_in word.now }
-    ensures fine { IfSome result IsFine }
+/// The degrees that this text behind a slash gives.
+fn degrees_behind(text: &[u8]) -> Option<u32>
+    ensures value { result ≡ degrees_behind text.now }
+    ensures small { IfSome result (λ degrees. degrees ≤ 30) }
 {
-    if is_ratio(word) {
-        ratio_behind(&word[2..])
+    let degrees = read_digits(text, 2)?;
+    if degrees <= 30 {
+        Some(degrees as u32)
+    } else {
+        None
+    }
+}
+
+/// The least angle of so many degrees; an angle of 0 degrees is none.
+fn angle_of(degrees: u32) -> Option<u32>
+    requires { degrees ≤ 30 }
+    ensures value { result ≡ angle_of degrees }
+    ensures small { IfSome result (λ n. n ≤ 30) }
+{
+    if degrees == 0 { None } else { Some(degrees) }
+}
+
+/// The place of the first slash of a text.
+fn slash_in(text: &[u8]) -> Option<usize>
+    ensures value { result ≡ position is_slash text.now }
+    ensures bound { IfSome result (λ i. i < length text.now) }
+{
+    text.iter().position(|byte| *byte == b'/')
+}
+
+/// The shape of a ratio and of so many degrees, where both are there.
+fn shape_of(ratio: Option<Ratio>, degrees: Option<u32>) -> Option<Shape>
+    requires ratio { IfSome ratio IsFine }
+    requires degrees { IfSome degrees (λ n. n ≤ 30) }
+    ensures value { result ≡ shape_of ratio degrees }
+    ensures fine { IfSome result IsFineShape }
+{
+    match (ratio, degrees) {
+        (Some(ratio), Some(degrees)) => Some(Shape {
+            ratio,
+            angle: angle_of(degrees),
+        }),
+        _ => None,
+    }
+}
+
+/// The angle that is aimed at where none is given, in degrees.
+const PLAIN_ANGLE: u32 = 20;
+
+/// The shape that this text behind `-q` gives.
+#[tactic(auto, unfolding(crate::specs::Words::shape_around))]
+fn shape_behind(text: &[u8]) -> Option<Shape>
+    ensures value { result ≡ shape_around text.now (position is_slash text.now) }
+    ensures fine { IfSome result IsFineShape }
+{
+    match slash_in(text) {
+        None => shape_of(ratio_behind(text), Some(PLAIN_ANGLE)),
+        Some(i) => shape_of(ratio_behind(&text[..i]), degrees_behind(&text[i + 1..])),
+    }
+}
+
+/// The shape that the word gives.
+fn shape_in(word: &[u8]) -> Option<Shape>
+    ensures value { result ≡ shape_in word.now }
+    ensures fine { IfSome result IsFineShape }
+{
+    if is_shape(word) {
+        shape_behind(&word[2..])
     } else {
         None
     }
@@ -115,14 +177,14 @@ fn is_bad_volume(word: &[u8]) -> bool
     is_volume(word) && !asks_limits(word) && volume_in(word).is_none()
 }
 
-/// Whether the word bounds volumes or ratios, and gives no bound.
+/// Whether the word bounds volumes or shapes, and gives no bound.
 fn is_bad_bound(word: &[u8]) -> bool
     ensures { result ≡ is_bad_bound word.now }
 {
-    is_bad_volume(word) || is_ratio(word) && ratio_in(word).is_none()
+    is_bad_volume(word) || is_shape(word) && shape_in(word).is_none()
 }
 
-/// The first word that bounds volumes or ratios and gives no bound, by its place from 0.
+/// The first word that bounds volumes or shapes and gives no bound, by its place from 0.
 pub(crate) fn bad_bound(words: &Words) -> Option<usize>
     ensures value { result ≡ position is_bad_bound words.now }
     ensures there { IfSome result (λ i. i < 2 ^ 63) }
@@ -145,14 +207,14 @@ fn fit_volume(words: &Words) -> Option<Decimal>
     last
 }
 
-/// The last ratio that a word gives.
-fn fit_ratio(words: &Words) -> Option<Ratio>
-    ensures value { result ≡ fit_ratio words.now }
-    ensures fine { IfSome result IsFine }
+/// The last shape that a word gives.
+fn fit_shape(words: &Words) -> Option<Shape>
+    ensures value { result ≡ fit_shape words.now }
+    ensures fine { IfSome result IsFineShape }
 {
     let mut last = None;
     for word in words.as_slice() {
-        last = ratio_in(word.as_slice()).or(last);
+        last = shape_in(word.as_slice()).or(last);
     }
     last
 }
@@ -177,19 +239,19 @@ pub(crate) fn asks_region_limits(words: &Words) -> bool
         .any(|word| asks_limits(word.as_slice()))
 }
 
-/// What the tetrahedra are to be like, where a word bounds volumes or gives a ratio.
+/// What the tetrahedra are to be like, where a word bounds volumes or shapes.
 pub(crate) fn fit_goal(words: &Words) -> Option<Goal>
     ensures value { result ≡ fit_goal words.now }
     ensures fine { IfSome result IsFineGoal }
 {
     let volume = fit_volume(words);
-    let ratio = fit_ratio(words);
+    let shape = fit_shape(words);
     let bounds_volumes = volume.is_some() || asks_region_limits(words);
-    if bounds_volumes || ratio.is_some() {
+    if bounds_volumes || shape.is_some() {
         Some(Goal {
             bounds_volumes,
             volume,
-            ratio,
+            shape,
             splits_boundary: !keeps_boundaries(words),
         })
     } else {
@@ -197,7 +259,7 @@ pub(crate) fn fit_goal(words: &Words) -> Option<Goal>
     }
 }
 
-/// The first word that bounds volumes or ratios, by its place from 0.
+/// The first word that bounds volumes or shapes, by its place from 0.
 fn bounding_place(words: &Words) -> Option<usize>
     ensures value { result ≡ position is_bounding words.now }
     ensures there { IfSome result (λ i. i < 2 ^ 63) }
@@ -208,7 +270,7 @@ fn bounding_place(words: &Words) -> Option<usize>
         .position(|word| is_bounding(word.as_slice()))
 }
 
-/// The first word that bounds volumes or ratios, counted from 1; 1 where there is none.
+/// The first word that bounds volumes or shapes, counted from 1; 1 where there is none.
 fn first_bounding(words: &Words) -> usize
     ensures { result ≡ first_bounding words.now }
 {

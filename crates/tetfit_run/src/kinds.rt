@@ -17,8 +17,8 @@ pub(crate) const HALVINGS: &[u8] = b"--halvings=";
 /// regions.
 pub(crate) const VOLUME: &[u8] = b"-a";
 
-/// The front of the word that bounds the ratio of the circumradius to the shortest edge.
-pub(crate) const RATIO: &[u8] = b"-q";
+/// The front of the word that bounds the shape of tetrahedra.
+pub(crate) const SHAPE: &[u8] = b"-q";
 
 /// The word that asks for the `.vtk` file.
 pub(crate) const VTK: &[u8] = b"-k";

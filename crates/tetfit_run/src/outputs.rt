@@ -17,6 +17,7 @@ ghost use Rattle.tetfit_run.specs.Outputs.{FitWordsAnswer, IsFinalBy, IsFittedTo
 ghost use Rattle.tetfit_run.specs.Outputs.{IsMore, OutputsOfFit, OutputsOfWanted, Says, fit_limits};
 ghost use Rattle.tetfit_run.specs.Outputs.{fitted_told, outputs_at, said, wanted_from};
 ghost use Rattle.tetfit_run.specs.Run.{IsKnown, IsKnownOf, IsUnfitted};
+ghost use Rattle.tetfit_run.specs.Stages.{SeesRounds};
 
 use crate::copies::with_origin;
 use crate::fitting::{Fitted, fit_input};
@@ -31,7 +32,7 @@ use crate::request::{Request, other_words, request_of};
 use crate::trying::Unfitted;
 use crate::wanted::{Wanted, read_wanted};
 use command_words::{Options, WordsFault};
-use refining::Goal;
+use refining::{Goal, Watch};
 use run_steps::{Input, Outputs, Report, Texts};
 use std::alloc::Global;
 use tet_ports::{Bytes, Folder, NoMemory, Words};
@@ -118,12 +119,13 @@ fn more_of(
 
 /// The outputs of the refined mesh at so many or fewer decimals: those that leave halvings of the
 /// grid to added points, or else all.
-fn refined_within(
+fn refined_within<W: Watch>(
     alloc: Global,
     options: &Options,
     input: &Input,
     decimals: u32,
     goal: &Goal,
+    watch: &mut W,
 ) -> Result<Fitted, NoMemory>
     requires input { IsSound input.now }
     requires ranges { (m : ℕ) → m ≤ decimals → AreInTriedRange (at_decimals m options.now) }
@@ -133,15 +135,16 @@ fn refined_within(
     ensures outputs { IfOk result (λ final. RefinedMeshed goal.now fit_limits
         (at_decimals final.decimals options.now)
         (tried (at_decimals final.decimals options.now) input.now) (Ok final.outputs)) }
+    ensures shown { SeesRounds W.shown watch.old watch.new }
 {
     let points = input.nodes.decimals.as_slice();
     let fine = refined_decimals(options.origin, points, decimals, FINE);
-    match refined_at(alloc, fit_limits(), options, input, fine, goal) {
+    match refined_at(alloc, options, input, fine, goal, watch) {
         Ok(outputs) => Ok(Fitted {
             decimals: fine,
             outputs,
         }),
-        Err(_) => match refined_at(alloc, fit_limits(), options, input, decimals, goal) {
+        Err(_) => match refined_at(alloc, options, input, decimals, goal, watch) {
             Ok(outputs) => Ok(Fitted { decimals, outputs }),
             Err(_) => Err(NoMemory),
         },
@@ -150,11 +153,12 @@ fn refined_within(
 
 /// The outputs in the end, and the decimals: those that are fitted, or, where tetrahedra are
 /// bounded, those of the refined mesh.
-fn final_outputs(
+fn final_outputs<W: Watch>(
     alloc: Global,
     wanted: &Wanted,
     input: &Input,
     fitted: Fitted,
+    watch: &mut W,
 ) -> Result<Fitted, NoMemory>
     requires input { IsSound input.now }
     requires ranges { (m : ℕ) → m ≤ fitted.decimals
@@ -163,44 +167,48 @@ fn final_outputs(
     ensures few { IfOk result (λ final. final.decimals ≤ fitted.decimals) }
     ensures outputs { IfOk result (λ final. IsFinalBy wanted.now.goal wanted.now.options
         input.now fitted.decimals fitted.outputs final.decimals final.outputs) }
+    ensures shown { SeesRounds W.shown watch.old watch.new }
 {
     let decimals = fitted.decimals;
     match &wanted.goal {
         None => Ok(fitted),
         Some(goal) => {
             drop(fitted);
-            refined_within(alloc, &wanted.options, input, decimals, goal)
+            refined_within(alloc, &wanted.options, input, decimals, goal, watch)
         }
     }
 }
 
 /// The outputs of a fitted mesh, or of the refined one, with the line that says why where it has no
 /// tetrahedron.
-fn told_outputs(
+fn told_outputs<W: Watch>(
     alloc: Global,
     wanted: &Wanted,
     input: &Input,
     fitted: Fitted,
+    watch: &mut W,
 ) -> Result<Outputs, NoMemory>
     requires input { IsSound input.now }
     requires ranges { AreTriable wanted.now.options input.now }
     requires refinable { IsRefinable wanted.now }
     requires fitted { IsFitted fit_limits wanted.now.options input.now fitted.decimals
         (Ok fitted.outputs) }
-    ensures { IfOk result (λ outputs. IsFittedTo wanted.now input.now (Ok outputs)) }
+    ensures made { IfOk result (λ outputs. IsFittedTo wanted.now input.now (Ok outputs)) }
+    ensures shown { SeesRounds W.shown watch.old watch.new }
 {
-    let last = final_outputs(alloc, wanted, input, fitted)?;
+    let last = final_outputs(alloc, wanted, input, fitted, watch)?;
     let more = more_of(alloc, &wanted.options, input, &last)?;
     Ok(outputs_at(last, more))
 }
 
 /// The outputs of a model with the most decimals at which the grid does not refuse it, or the
 /// refusal with the lines that follow its message.
-fn fitted_outputs(
+fn fitted_outputs<W: Watch>(
     alloc: Global,
     wanted: &Wanted,
     model: &Model,
     hint: &mut Bytes,
+    watch: &mut W,
 ) -> Result<Outputs, Stop>
     requires input { IsSound model.now.input }
     requires origin { wanted.now.options.origin ≡ origin_in model.now.input }
@@ -209,10 +217,11 @@ fn fitted_outputs(
     ensures made { IfOk result
         (λ outputs. IsFittedTo wanted.now model.now.input (Ok outputs)) }
     ensures stopped { IfErr result (IsUnfitted wanted.now.options model.now hint.new) }
+    ensures shown { SeesRounds W.shown watch.old watch.new }
 {
     let options = &wanted.options;
     match fit_input(alloc, fit_limits(), options, &model.input) {
-        Ok(fitted) => Ok(told_outputs(alloc, wanted, &model.input, fitted)?),
+        Ok(fitted) => Ok(told_outputs(alloc, wanted, &model.input, fitted, watch)?),
         Err(refused) => {
             *hint = hint_of(alloc, fit_limits(), options, model, &refused)?;
             let Unfitted { status, numbering } = refused.end;
@@ -236,11 +245,12 @@ fn wanted_from(alloc: Global, wanted: &Wanted, model: &Model) -> Result<Wanted, 
 }
 
 /// The outputs of the model that the options name.
-fn outputs_of_wanted<F: Folder>(
+fn outputs_of_wanted<F: Folder, W: Watch>(
     alloc: Global,
     wanted: &Wanted,
     folder: &mut F,
     hint: &mut Bytes,
+    watch: &mut W,
 ) -> Result<Outputs, Stop>
     requires ranges { AreInRange wanted.now.options }
     requires plain { IsPlainRequest wanted.now.options }
@@ -254,10 +264,11 @@ fn outputs_of_wanted<F: Folder>(
         (IsKnownOf wanted.now.options
         (folder_seen F.state folder.old folder.new) hint.new)) }
     ensures only_read { IsOnlyRead (folder_seen F.state folder.old folder.new) }
+    ensures shown { SeesRounds W.shown watch.old watch.new }
 {
     let model = read_model(alloc, fit_limits(), &wanted.options, folder)?;
     let placed = wanted_from(alloc, wanted, &model)?;
-    fitted_outputs(alloc, &placed, &model, hint)
+    fitted_outputs(alloc, &placed, &model, hint, watch)
 }
 
 /// The options and the goal of the words, without those that ask for the stages.
@@ -275,11 +286,13 @@ fn fit_wanted(alloc: Global, words: &Words) -> Result<Wanted, WordsFault>
 }
 
 /// The outputs that the words ask for: the page, the version, or those of the model that they name.
-pub(crate) fn outputs_of<F: Folder>(
+/// `watch` is shown the rounds in which points are added.
+pub(crate) fn outputs_of<F: Folder, W: Watch>(
     alloc: Global,
     words: &Words,
     folder: &mut F,
     hint: &mut Bytes,
+    watch: &mut W,
 ) -> Result<Outputs, Stop>
     requires { hint.old ≡ [] }
     ensures made { IfOk result (λ outputs. OutputsOfFit words.now
@@ -289,13 +302,14 @@ pub(crate) fn outputs_of<F: Folder>(
         (IsKnown (others words.now)
         (folder_seen F.state folder.old folder.new) hint.new)) }
     ensures only_read { IsOnlyRead (folder_seen F.state folder.old folder.new) }
+    ensures shown { SeesRounds W.shown watch.old watch.new }
 {
     match request_of(words) {
         Request::Page => Ok(said(alloc, PAGE)?),
         Request::Version => Ok(said(alloc, VERSION)?),
         Request::Mesh => {
             let wanted = fit_wanted(alloc, words)?;
-            outputs_of_wanted(alloc, &wanted, folder, hint)
+            outputs_of_wanted(alloc, &wanted, folder, hint, watch)
         }
     }
 }

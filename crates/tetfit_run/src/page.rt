@@ -22,7 +22,9 @@ name.1.face.\n\
 \x20       its region, and write attributes as with A; a word of its own\n\
 \x20 q<R>  add points to make tetrahedra whose circumradius is over R times their\n\
 \x20       shortest edge better, and count those that are left; R is from 1 to 100,\n\
-\x20       or 2 where none is given; a word of its own, as -q1.4\n\
+\x20       or 2 where none is given; a word of its own, as -q1.4; and move points so\n\
+\x20       that no dihedral angle is below 20 degrees, as far as it comes, or below\n\
+\x20       the 0 to 30 degrees behind a slash, as -q1.4/25, and count those left\n\
 \x20 Y     add no points on edges and facets for -a and -q; a word of its own\n\
 \x20 S<n>  add at most n points to protect segments, and n for -a and -q\n\
 \x20 n     write name.1.neigh, the neighbors of each tetrahedron\n\

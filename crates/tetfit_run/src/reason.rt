@@ -5,16 +5,16 @@ ghost use Rattle.tetfit_run.specs.Reasons.{cluster_reason, long_reason, reason_o
 ghost use Rattle.tetfit_run.specs.Texts.{reason_text};
 
 use crate::kinds::{DECIMALS, HALVINGS, SAMPLE, byte_at, is_cluster, is_long};
-use crate::request::{is_ratio, is_volume, keeps_boundary};
+use crate::request::{is_shape, is_volume, keeps_boundary};
 use tet_ports::Words;
 
 /// Why a word is not understood.
 #[derive(Clone, Copy, Debug, PartialEq, Eq)]
 pub enum Reason {
     /// The letter q among others: a bound on the shape of tetrahedra is a word of its own.
-    Ratios,
+    Shapes,
     /// A word that begins with `-q` and gives no bound, or one for a model without facets.
-    Ratio,
+    Shape,
     /// The letter a among others: a bound on the volume of tetrahedra is a word of its own.
     Volumes,
     /// A word that begins with `-a` and gives no bound, or one for a model without facets.
@@ -73,9 +73,10 @@ impl Reason {
         ensures { result.now ≡ reason_text self }
     {
         match self {
-            Reason::Ratios => b"a ratio is a word of its own, as -q1.4",
-            Reason::Ratio => {
-                b"a ratio from 1 to 100 is wanted, with at most 4 decimals, and a model with facets"
+            Reason::Shapes => b"a ratio is a word of its own, as -q1.4",
+            Reason::Shape => {
+                b"a ratio from 1 to 100 with at most 4 decimals is wanted, \
+                  or with /n behind it, n degrees from 0 to 30, and a model with facets"
             }
             Reason::Volumes => b"a volume is a word of its own, as -a0.5",
             Reason::Volume => b"a volume above 0 is wanted, and a model with facets",
@@ -84,7 +85,7 @@ impl Reason {
             Reason::Order => b"a tetrahedron has four corners, and no midpoints",
             Reason::Insertion => b"points are not added from a list",
             Reason::Coarsening => b"meshes are not made coarser",
-            Reason::Optimization => b"meshes are not improved",
+            Reason::Optimization => b"tetrahedra are made better by -q",
             Reason::Tolerance => b"signs are exact, and take no tolerance",
             Reason::Exactness => b"signs are always exact",
             Reason::Crossings => b"crossing parts are told without a switch",
@@ -111,7 +112,7 @@ fn reason_of(byte: u8) -> Reason
     ensures { result ≡ reason_of byte }
 {
     match byte {
-        b'q' => Reason::Ratios,
+        b'q' => Reason::Shapes,
         b'a' => Reason::Volumes,
         b'm' => Reason::Sizes,
         b'o' => Reason::Order,
@@ -136,15 +137,15 @@ fn reason_of(byte: u8) -> Reason
 }
 
 /// Why the byte at this place of a cluster, from 1, is not understood; behind `-a` it is the
-/// volume that is missing, behind `-q` the ratio, behind an S the number, and beside `-Y` a bound.
+/// volume that is missing, behind `-q` the shape, behind an S the number, and beside `-Y` a bound.
 fn cluster_reason(word: &[u8], place: usize) -> Reason
     ensures { result ≡ cluster_reason word.now place }
 {
     if is_volume(word) {
         return Reason::Volume;
     }
-    if is_ratio(word) {
-        return Reason::Ratio;
+    if is_shape(word) {
+        return Reason::Shape;
     }
     if keeps_boundary(word) {
         return Reason::Boundary;

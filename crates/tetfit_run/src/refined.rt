@@ -1,22 +1,23 @@
 //! The outputs of a model whose mesh is refined.
 
 ghost use Rattle.std.specs.Prelude.{◌≡◌, ◌≤◌, true, IfSome};
-ghost use Rattle.node_files.specs.Limits.{AreIndexable};
 ghost use Rattle.run_steps.specs.Meshing.{IsMeshableBound};
 ghost use Rattle.run_steps.specs.Reading.{IsSound};
 ghost use Rattle.refining.specs.Goals.{IsFineGoal};
 ghost use Rattle.refining.specs.Outputs.{RefinedMade, RefinedMeshed};
 ghost use Rattle.tet_shapes.specs.Shape.{IsFine};
 ghost use Rattle.tetfit_run.specs.Measured.{tried};
+ghost use Rattle.tetfit_run.specs.Outputs.{fit_limits};
+ghost use Rattle.tetfit_run.specs.Stages.{SeesRounds};
 ghost use Rattle.tetfit_run.specs.Trial.{AreInTriedRange};
 ghost use Rattle.tetfit_run.specs.Trying.{at_decimals};
 
 use crate::copies::{at_decimals, tried_nodes};
+use crate::limits::fit_limits;
 use crate::trial::Trial;
 use command_words::Options;
 use grid_coords::Grid;
-use node_files::Limits;
-use refining::{Bounds, Goal, Quality, ShapeBounds, refined_outputs, shape_bounds};
+use refining::{Bounds, Goal, Quality, ShapeBounds, Watch, refined_outputs, shape_bounds};
 use run_steps::{Bound, Input, Outputs, Status};
 use std::alloc::Global;
 
@@ -35,78 +36,75 @@ const ROUNDS: u32 = 40;
 const MOST_PROTECTION: u32 = 100_000;
 
 /// The most points that are added to a mesh.
-fn most_added(limits: Limits, options: &Options) -> usize {
+fn most_added(options: &Options) -> usize {
     if options.budget < MOST_PROTECTION {
         options.budget as usize
     } else {
-        limits.points
+        fit_limits().points
     }
 }
 
 /// The bounds of the rounds on a grid.
-fn bounds_on(grid: Grid, limits: Limits, options: &Options) -> Bounds {
+fn bounds_on<'a>(grid: Grid, options: &Options, shapes: &'a ShapeBounds) -> Bounds<'a>
+    ensures { result.shapes.now ≡ shapes.now }
+{
     Bounds {
+        shapes,
         halvings: halvings_left(grid),
         rounds: ROUNDS,
-        added: most_added(limits, options),
-        most: limits.points,
+        added: most_added(options),
+        most: fit_limits().points,
     }
 }
 
 /// The outputs of points and a complex on their grid, with the mesh refined while a tetrahedron is
-/// over a bound, and points added on segments and in facets or not.
-fn refined_towards(
+/// over a bound, and points added on segments and in facets or not; `watch` is shown the rounds.
+fn refined_towards<W: Watch>(
     alloc: Global,
-    limits: Limits,
     options: &Options,
     bound: Bound,
     shapes: &ShapeBounds,
     splits_boundary: bool,
+    watch: &mut W,
 ) -> Result<Outputs, Status>
     requires bound { IsMeshableBound options.now bound }
     requires complex { options.now.piecewise ≡ true }
     requires fine { IfSome shapes.now.ratio IsFine }
-    ensures { RefinedMade shapes.now options.now bound result }
+    ensures made { RefinedMade shapes.now options.now bound result }
+    ensures shown { SeesRounds W.shown watch.old watch.new }
 {
-    let bounds = bounds_on(bound.table.grid, limits, options);
+    let bounds = bounds_on(bound.table.grid, options, shapes);
     let mut quality = Quality {
         shapes,
         splits_boundary,
     };
-    refined_outputs(alloc, options, bound, &bounds, shapes, &mut quality)
+    refined_outputs(alloc, options, bound, &bounds, &mut quality, watch)
 }
 
 /// The outputs of a complex rounded to `decimals` decimals, with the mesh refined while a
-/// tetrahedron is over a bound of the goal, or over the volume limit of its region. It refuses as
-/// `bind_input` and `mesh_outputs` do, or when out of memory.
-pub(crate) fn refined_at(
+/// tetrahedron is over a bound of the goal, or over the volume limit of its region; `watch` is
+/// shown the rounds. It refuses as `bind_input` and `mesh_outputs` do, or when out of memory.
+pub(crate) fn refined_at<W: Watch>(
     alloc: Global,
-    limits: Limits,
     options: &Options,
     input: &Input,
     decimals: u32,
     goal: &Goal,
+    watch: &mut W,
 ) -> Result<Outputs, Status>
-    requires limits { AreIndexable limits }
     requires input { IsSound input.now }
     requires ranges { AreInTriedRange (at_decimals decimals options.now) }
     requires complex { options.now.piecewise ≡ true }
     requires fine { IsFineGoal goal.now }
-    ensures { RefinedMeshed goal.now limits (at_decimals decimals options.now)
+    ensures made { RefinedMeshed goal.now fit_limits (at_decimals decimals options.now)
         (tried (at_decimals decimals options.now) input.now) result }
+    ensures shown { SeesRounds W.shown watch.old watch.new }
 {
     let options = at_decimals(alloc, options, decimals)?;
     let nodes = tried_nodes(alloc, &options, &input.nodes)?;
     let of_regions = input.complex.limits(alloc)?;
-    let rounded = Trial::new(limits, &options, input);
+    let rounded = Trial::new(fit_limits(), &options, input);
     let bound = rounded.bind(alloc, nodes)?;
     let shapes = shape_bounds(alloc, &bound, goal, of_regions.as_slice())?;
-    refined_towards(
-        alloc,
-        limits,
-        &options,
-        bound,
-        &shapes,
-        goal.splits_boundary,
-    )
+    refined_towards(alloc, &options, bound, &shapes, goal.splits_boundary, watch)
 }

@@ -4,9 +4,9 @@ ghost use Rattle.std.specs.Prelude.{◌≡◌, ◌+◌, ◌++◌, ◌<◌, ℕ, 
 ghost use Rattle.std.specs.Str.{bytes_eq};
 ghost use Rattle.command_words.specs.Meaning.{AreInRange};
 ghost use Rattle.command_words.specs.declared.fault.WordsFault.TheVariants.{Usage};
-ghost use Rattle.tetfit_run.specs.Words.{request_of, asks_limits, asks_page, asks_stages, asks_version, elsewhere_in, first_elsewhere, formats_of, has_word, asks_elsewhere, is_bounding, is_format, is_letter_elsewhere, is_of_goal, is_own, is_plain, is_ratio, is_volume, keeps_boundary, named_fault, others, plain_fault, plain_options, plain_words, told_fault, IsPlainRequest};
+ghost use Rattle.tetfit_run.specs.Words.{request_of, asks_limits, asks_page, asks_stages, asks_version, elsewhere_in, first_elsewhere, formats_of, has_word, asks_elsewhere, is_bounding, is_format, is_letter_elsewhere, is_of_goal, is_own, is_plain, is_shape, is_volume, keeps_boundary, named_fault, others, plain_fault, plain_options, plain_words, told_fault, IsPlainRequest};
 
-use crate::kinds::{BOUNDARY, DECIMALS, MSH, RATIO, SAMPLE, VOLUME, VTK, is_cluster};
+use crate::kinds::{BOUNDARY, DECIMALS, MSH, SAMPLE, SHAPE, VOLUME, VTK, is_cluster};
 use command_words::{Formats, Options, WordsFault, read_words_within};
 use std::alloc::Global;
 use tet_ports::{Name, NoMemory, Words};
@@ -81,18 +81,18 @@ pub(crate) fn asks_limits(word: &[u8]) -> bool
     is_word(word, VOLUME)
 }
 
-/// Whether the word bounds the ratio of the circumradius to the shortest edge.
-pub(crate) fn is_ratio(word: &[u8]) -> bool
-    ensures { result ≡ is_ratio word.now }
+/// Whether the word bounds the shape of tetrahedra.
+pub(crate) fn is_shape(word: &[u8]) -> bool
+    ensures { result ≡ is_shape word.now }
 {
-    word.starts_with(RATIO)
+    word.starts_with(SHAPE)
 }
 
-/// Whether the word bounds volumes or ratios.
+/// Whether the word bounds volumes or shapes.
 pub(crate) fn is_bounding(word: &[u8]) -> bool
     ensures { result ≡ is_bounding word.now }
 {
-    is_volume(word) || is_ratio(word)
+    is_volume(word) || is_shape(word)
 }
 
 /// Whether the word asks that no points be added on segments and in facets.

@@ -10,7 +10,7 @@ ghost use Rattle.tetfit_run.specs.Run.{IsFitAnswer, IsFitComplete, IsKnown, IsFi
 
 use crate::messages::tell;
 use crate::outputs::outputs_of;
-use crate::stages::{say_reads, say_stores};
+use crate::stages::{READS, STORES, Stages, says_stages};
 use run_steps::Status;
 use std::alloc::Global;
 use tet_ports::{Bytes, Folder, Sink, Words};
@@ -64,8 +64,9 @@ fn run<F: Folder, O: Sink, E: Sink>(
     ensures stages { AreStagesPut words.now (answer_of result)
         (sink_seen E.state err.old err.new) }
 {
-    let goes_on = say_reads(words, err);
-    let outputs = outputs_of(alloc, words, folder, hint)?;
-    say_stores(words, goes_on, err);
+    let mut stages = Stages::new(err, says_stages(words));
+    stages.say(READS);
+    let outputs = outputs_of(alloc, words, folder, hint, &mut stages)?;
+    stages.say(STORES);
     finish(alloc, outputs, folder, out)
 }

@@ -54,7 +54,8 @@ fn halvings_for(options: &Options) -> u32
 ///
 /// `Usage` exactly where a word begins with `-a` and something else than a number above 0 with at
 /// most 36 decimals is behind that, or one begins with `-q` and something else than a number from
-/// 1 to 100 with at most 4 decimals is behind that, with the first such word; or where the other
+/// 1 to 100 with at most 4 decimals is behind that, with degrees from 0 to 30 behind a slash where
+/// there is one, with the first such word; or where the other
 /// words are refused by `read_options`, with its fault; or where a bound is given for a model
 /// without facets, with the first bound; or where `-Y` is given without a bound, with the first
 /// `-Y`.

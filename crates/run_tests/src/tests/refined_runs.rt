@@ -11,7 +11,8 @@ const CUBE: &[u8] = b"\
 6 0\n4 1 2 3 4\n4 5 6 7 8\n4 1 2 6 5\n4 2 3 7 6\n4 3 4 8 7\n4 4 1 5 8\n0\n0\n";
 
 /// A box with sides of 8, 8 and 1. The sphere through its corners has the square of its radius at
-/// 129/4, and six tetrahedra with an edge of 1 fill it, each of 32/3.
+/// 129/4, and six tetrahedra with an edge of 1 fill it, each of 32/3, with least dihedral angles of
+/// 7.07 to 10.06 degrees.
 const FLAT_BOX: &[u8] = b"\
 8 3 0 0\n1 0 0 0\n2 8 0 0\n3 8 8 0\n4 0 8 0\n5 0 0 1\n6 8 0 1\n7 8 8 1\n8 0 8 1\n\
 6 0\n4 1 2 3 4\n4 5 6 7 8\n4 1 2 6 5\n4 2 3 7 6\n4 3 4 8 7\n4 4 1 5 8\n0\n0\n";
@@ -37,23 +38,28 @@ tetfit: -a: a volume above 0 is wanted, and a model with facets\n";
 const IN_CLUSTER: &[u8] = b"tetfit: -pa1: a: a volume is a word of its own, as -a0.5\n";
 
 const RATIO_BELOW_ONE: &[u8] = b"\
-tetfit: -q0.5: 0: a ratio from 1 to 100 is wanted, with at most 4 decimals, and a model with \
-facets\n";
+tetfit: -q0.5: 0: a ratio from 1 to 100 with at most 4 decimals is wanted, \
+or with /n behind it, n degrees from 0 to 30, and a model with facets\n";
 
 const RATIO_OVER_HUNDRED: &[u8] = b"\
-tetfit: -q101: 1: a ratio from 1 to 100 is wanted, with at most 4 decimals, and a model with \
-facets\n";
+tetfit: -q101: 1: a ratio from 1 to 100 with at most 4 decimals is wanted, \
+or with /n behind it, n degrees from 0 to 30, and a model with facets\n";
 
 const NO_RATIO: &[u8] = b"\
-tetfit: -qx: x: a ratio from 1 to 100 is wanted, with at most 4 decimals, and a model with \
-facets\n";
+tetfit: -qx: x: a ratio from 1 to 100 with at most 4 decimals is wanted, \
+or with /n behind it, n degrees from 0 to 30, and a model with facets\n";
 
 const FIVE_DECIMALS: &[u8] = b"\
-tetfit: -q1.41421: 1: a ratio from 1 to 100 is wanted, with at most 4 decimals, and a model with \
-facets\n";
+tetfit: -q1.41421: 1: a ratio from 1 to 100 with at most 4 decimals is wanted, \
+or with /n behind it, n degrees from 0 to 30, and a model with facets\n";
 
 const RATIO_OF_POINTS: &[u8] = b"\
-tetfit: -q: a ratio from 1 to 100 is wanted, with at most 4 decimals, and a model with facets\n";
+tetfit: -q: a ratio from 1 to 100 with at most 4 decimals is wanted, \
+or with /n behind it, n degrees from 0 to 30, and a model with facets\n";
+
+const ANGLE_OVER_THIRTY: &[u8] = b"\
+tetfit: -q2/31: 2: a ratio from 1 to 100 with at most 4 decimals is wanted, \
+or with /n behind it, n degrees from 0 to 30, and a model with facets\n";
 
 const BOUNDARY_IN_CLUSTER: &[u8] = b"\
 tetfit: -pY: Y: this letter is a word of its own, with its hyphen\n";
@@ -143,32 +149,32 @@ static LIMITED: [Run<'static>; 5] = [
     },
 ];
 
-static SHAPED: [Run<'static>; 11] = [
+static SHAPED: [Run<'static>; 12] = [
     Run {
         name: "a ratio that no tetrahedron is over",
         held: &[(b"c.smesh", &[CUBE])],
         words: &[b"-NEF", b"-q", b"c.smesh"],
-        end: Told(b"points 8 added 0 tetrahedra 6 faces 18 edges 19 decimals 0 slim 0\n"),
+        end: Told(b"points 8 added 0 tetrahedra 6 faces 18 edges 19 decimals 0 slim 0 flat 0\n"),
         files: &[],
     },
     Run {
         name: "a ratio that all are just over, and no point may be added",
         held: &[(b"c.smesh", &[FLAT_BOX])],
         words: &[b"-NEFS0", b"-q5.6789", b"c.smesh"],
-        end: Told(b"points 8 added 0 tetrahedra 6 faces 18 edges 19 decimals 0 slim 6\n"),
+        end: Told(b"points 8 added 0 tetrahedra 6 faces 18 edges 19 decimals 0 slim 6 flat 6\n"),
         files: &[],
     },
     Run {
-        name: "the last of two ratios, that all are just within",
+        name: "the last of two shapes: all are just within the ratio, and four below the angle",
         held: &[(b"c.smesh", &[FLAT_BOX])],
-        words: &[b"-NEFS0", b"-q2", b"c.smesh", b"-q5.679"],
-        end: Told(b"points 8 added 0 tetrahedra 6 faces 18 edges 19 decimals 0 slim 0\n"),
+        words: &[b"-NEFS0", b"-q2", b"c.smesh", b"-q5.679/8"],
+        end: Told(b"points 8 added 0 tetrahedra 6 faces 18 edges 19 decimals 0 slim 0 flat 4\n"),
         files: &[],
     },
     Run {
-        name: "a ratio and a volume",
+        name: "a ratio, no angle, and a volume",
         held: &[(b"c.smesh", &[FLAT_BOX])],
-        words: &[b"-q100", b"-NEFS0", b"-a10.66", b"c.smesh", b"-Y"],
+        words: &[b"-q100/0", b"-NEFS0", b"-a10.66", b"c.smesh", b"-Y"],
         end: Told(b"points 8 added 0 tetrahedra 6 faces 18 edges 19 decimals 0 over 6 slim 0\n"),
         files: &[],
     },
@@ -198,6 +204,13 @@ static SHAPED: [Run<'static>; 11] = [
         held: &[(b"c.smesh", &[CUBE])],
         words: &[b"-q1.41421", b"c.smesh"],
         end: Refused(1, FIVE_DECIMALS),
+        files: &[],
+    },
+    Run {
+        name: "an angle over 30 degrees",
+        held: &[(b"c.smesh", &[CUBE])],
+        words: &[b"-q2/31", b"c.smesh"],
+        end: Refused(1, ANGLE_OVER_THIRTY),
         files: &[],
     },
     Run {

@@ -4,8 +4,8 @@ use Rattle.std.specs.Prelude.{Ok}
 use Rattle.tetfit_run.proofs.Fitted.{fitted_told}
 use Rattle.tetfit_run.proofs.outputs.told_outputs.Goals as goal
 
-pub returns : goal.returns
-returns c =
+pub returns-clause-made : goal.returns-clause-made
+returns-clause-made g c =
     let f = c.args.fitted in
     let w = c.args.wanted.now in
     let i = c.args.input.now in

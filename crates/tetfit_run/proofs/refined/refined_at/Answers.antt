@@ -7,20 +7,21 @@ use Rattle.refining.specs.declared.goal.ShapeBounds.{ShapeBounds}
 use Rattle.run_steps.proofs.Steps.{and_then_ok}
 use Rattle.run_steps.specs.Meshing.{BoundAnswer}
 use Rattle.tetfit_run.specs.Measured.{BoundTried, tried}
+use Rattle.tetfit_run.specs.Outputs.{fit_limits}
 use Rattle.tetfit_run.specs.Trial.{TrialValue}
 use Rattle.tetfit_run.proofs.refined.refined_at.Goals as goal
 
-pub returns : goal.returns
-returns c =
-    let limits = c.args.limits in
+pub returns-clause-made : goal.returns-clause-made
+returns-clause-made g c =
     let input = c.args.input.now in
-    let g = c.args.goal.now in
+    let aim = c.args.goal.now in
     let o = c.in_ok-options.options in
     let bound = c.in_ok-bound.bound in
     let made = c.refined_towards.result in
     let limits_are = c.as_slice.ensures ∙ c.in_ok-of_regions.ensures in
     let shapes_are = c.in_ok-shapes.ensures.value in
-    let refined = subst (λ (s : ShapeBounds). RefinedMade s o bound made) (shapes_are ∙ ap (shape_bounds bound g) limits_are) c.refined_towards.ensures in
-    let answer = subst (λ (t : TrialValue). BoundTried t.limits t.options t.input (Ok bound)) c.new-rounded.ensures c.in_ok-bound.ensures.answer in
-    subst (λ (q : Options). RefinedMeshed g limits q (tried q input) made) c.in_ok-options.ensures
-    (and_then_ok (BoundAnswer limits o (tried o input)) (λ b. RefinedMade (shape_bounds b g (limits_of input.complex)) o b) bound made answer refined)
+    let refined = subst (λ (s : ShapeBounds). RefinedMade s o bound made) (shapes_are ∙ ap (shape_bounds bound aim) limits_are) c.refined_towards.ensures.made in
+    let tried_so = subst (λ (t : TrialValue). BoundTried t.limits t.options t.input (Ok bound)) c.new-rounded.ensures c.in_ok-bound.ensures.answer in
+    let answer = subst (λ limits. BoundTried limits o input (Ok bound)) c.fit_limits.ensures.values tried_so in
+    subst (λ (q : Options). RefinedMeshed aim fit_limits q (tried q input) made) c.in_ok-options.ensures
+    (and_then_ok (BoundAnswer fit_limits o (tried o input)) (λ b. RefinedMade (shape_bounds b aim (limits_of input.complex)) o b) bound made answer refined)

@@ -1,4 +1,4 @@
-use Rattle.std.proofs.Common.{true, false, Ok, refl, arith}
+use Rattle.std.proofs.Common.{true, false, Ok, refl, arith, ap, ◌∙◌, rules}
 use Rattle.std.proofs.lemmas.Result.{err_from_is_err_and}
 use Rattle.tetfit_run.specs.Words.{others}
 use Rattle.tet_ports.proofs.Windows.{IsWithin}
@@ -6,10 +6,11 @@ use Rattle.tet_ports.specs.Seen.{FolderSeen, SinkSeen, folder_seen, sink_seen}
 use Rattle.tetgen_run.proofs.Endings.{finish_ends}
 use Rattle.tetfit_run.specs.Outputs.{OutputsOfFit}
 use Rattle.tetfit_run.specs.Run.{IsKnown}
-use Rattle.tetfit_run.specs.Stages.{stage_text}
+use Rattle.tetfit_run.specs.Said.{said_put}
+use Rattle.tetfit_run.specs.Stages.{says_stages, stages_text}
 use Rattle.tetfit_run.specs.declared.stages.TheConstants.{READS, STORES}
 use Rattle.tetfit_run.proofs.Fitted.{fit_refuses, fit_told, fit_wider}
-use Rattle.tetfit_run.proofs.Pieces.{both_put, finished_made, stage_put, stopped_unmade}
+use Rattle.tetfit_run.proofs.Pieces.{finished_made, rounds_said, stage_said, stopped_unmade}
 use Rattle.tetfit_run.proofs.run.run.Goals as goal
 
 pub returns-clause-ends : goal.returns-clause-ends
@@ -40,11 +41,15 @@ returns-in_err-outputs-clause-stages g c =
     let E = g.E.Sink in
     let words = c.args.words.now in
     let folder : FolderSeen = folder_seen F.state c.args.folder.now c.outputs_of.new.folder in
-    let err : SinkSeen = sink_seen E.state c.args.err.now c.say_reads-goes_on.new.err in
     let stop = c.in_err-outputs.field-0.0 in
     let p = err_from_is_err_and c.from_residual.result c.from_residual.ensures.1 in
     let unmade = stopped_unmade (OutputsOfFit words folder) (IsKnown (others words) folder c.outputs_of.new.hint) stop (fit_refuses words folder) c.in_err-outputs.ensures.stopped in
-    rw (p.1, p.2) (false, unmade, stage_put (stage_text words READS.now) err c.say_reads-goes_on.result c.say_reads-goes_on.ensures.whole c.say_reads-goes_on.ensures.cut)
+    let shown = c.in_err-outputs.ensures.shown in
+    let first = c.new-stages.ensures in
+    let says = says_stages words in
+    let said = rounds_said says c.new-stages.result.says c.say.new.self.says c.new-stages.result.goes_on c.say.new.self.goes_on c.outputs_of.new.watch.goes_on READS.now shown.0 (E.state c.args.err.now) (E.state c.new-stages.result.err.now) (E.state c.say.new.self.err.now) (E.state c.outputs_of.new.watch.err.now) first.goes_on (first.says ∙ c.says_stages.ensures) c.say.ensures.says (ap E.state first.kept) c.say.ensures.said shown.1.2 in
+    let put = said_put c.outputs_of.new.watch.goes_on (stages_text says shown.0 false) (E.state c.args.err.now) (E.state c.outputs_of.new.watch.err.now) said in
+    rw (p.1, p.2) (shown.0, false, unmade, search rules)
 
 pub returns-clause-stages : goal.returns-clause-stages
 returns-clause-stages g c =
@@ -55,9 +60,13 @@ returns-clause-stages g c =
     let outputs = c.in_ok-outputs.outputs in
     let stored : FolderSeen = folder_seen F.state c.outputs_of.new.folder c.finish.new.folder in
     let out : SinkSeen = sink_seen O.state c.args.out.now c.finish.new.out in
-    let a = c.say_reads-goes_on.ensures in
-    let b = c.say_stores.ensures in (
-      true,
-      finished_made outputs stored out c.finish.result c.finish.ensures.finish,
-      both_put (stage_text words READS.now) (stage_text words STORES.now) c.say_reads-goes_on.result (E.state c.args.err.now) (E.state c.say_reads-goes_on.new.err) (E.state c.say_stores.new.err) a.whole a.cut a.faults a.wants b.said b.kept,
-    )
+    let made = finished_made outputs stored out c.finish.result c.finish.ensures.finish in
+    let shown = c.in_ok-outputs.ensures.shown in
+    let first = c.new-stages.ensures in
+    let last = c.say-2.ensures in
+    let says = says_stages words in
+    let are = first.says ∙ c.says_stages.ensures in
+    let said = rounds_said says c.new-stages.result.says c.say.new.self.says c.new-stages.result.goes_on c.say.new.self.goes_on c.outputs_of.new.watch.goes_on READS.now shown.0 (E.state c.args.err.now) (E.state c.new-stages.result.err.now) (E.state c.say.new.self.err.now) (E.state c.outputs_of.new.watch.err.now) first.goes_on are c.say.ensures.says (ap E.state first.kept) c.say.ensures.said shown.1.2 in
+    let all = stage_said says c.outputs_of.new.watch.says c.outputs_of.new.watch.goes_on c.say-2.new.self.goes_on (stages_text says shown.0 false) STORES.now (E.state c.args.err.now) (E.state c.outputs_of.new.watch.err.now) (E.state c.say-2.new.self.err.now) (shown.1.1 ∙ c.say.ensures.says ∙ are) said last.said in
+    let put = said_put c.say-2.new.self.goes_on (stages_text says shown.0 true) (E.state c.args.err.now) (E.state c.say-2.new.self.err.now) all in
+    (shown.0, true, made, search rules)
