@@ -18,7 +18,7 @@ extern "C" {
 enum {
     TETGEN_DONE = 0,
     TETGEN_BAD_INDEX = 4,  /* a facet, a polygon or a corner names what is not there */
-    TETGEN_LIMIT = 5,      /* too many points, or a coordinate that is too large */
+    TETGEN_LIMIT = 5,      /* too many points, decimals or added points, or a coordinate too large or no number */
     TETGEN_FLAT = 6,       /* all points lie in one plane, as fewer than four do; or facets are not flat, or facets or segments cross */
     TETGEN_GRID_END = 7,   /* a segment needs more halvings */
     TETGEN_BUDGET_END = 8, /* as many points were added as allowed, and a segment is missing */

@@ -5,7 +5,7 @@ abbrev pub words_of_code : ℕ → List ℕ
 words_of_code n =
     if n == 0 then codes "done" else
     if n == 4 then codes "a facet, a polygon or a corner names what is not there" else
-    if n == 5 then codes "too many points, or a coordinate that is too large" else
+    if n == 5 then codes "too many points, decimals or added points, or a coordinate too large or no number" else
     if n == 6 then codes "all points lie in one plane, a facet is not flat, or facets or segments cross" else
     if n == 7 then codes "a segment needs a finer grid" else
     if n == 8 then codes "as many points were added as allowed, and a segment is missing" else

@@ -10,7 +10,7 @@ fn words_for(status: i32) -> &'static [u8]
     match status {
         0 => b"done",
         4 => b"a facet, a polygon or a corner names what is not there",
-        5 => b"too many points, or a coordinate that is too large",
+        5 => b"too many points, decimals or added points, or a coordinate too large or no number",
         6 => b"all points lie in one plane, a facet is not flat, or facets or segments cross",
         7 => b"a segment needs a finer grid",
         8 => b"as many points were added as allowed, and a segment is missing",
