@@ -1,0 +1,9 @@
+pub mod Across
+pub mod Walk
+pub mod Inner
+pub mod Sight
+pub mod Whole
+pub mod EachPoint
+pub mod Grown
+pub mod Refilled
+pub mod Edges
