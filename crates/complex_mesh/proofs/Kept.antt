@@ -108,6 +108,7 @@ module _ (o : MeshOptions) (ps : List Point) (c : Complex) (m : ComplexMesh) (se
     mesh = is_mesh;
     whole = whole;
     refilled = recovered.refilled;
+    admissible = recovered.admissible;
     carved = kept.carved;
     facets_covered = covered_at o ps c m segs fs rest given protected triangles;
     by_sides = recovered.by_sides;

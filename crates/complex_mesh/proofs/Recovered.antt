@@ -11,6 +11,7 @@ use Rattle.geo_laws.specs.Faces.{row_faces, face_of}
 use Rattle.geo_laws.proofs.Members.{contains_of, member_of, flat_map_cases}
 use Rattle.refill_laws.specs.Protected.{IsProtected}
 use Rattle.tangle_laws.specs.Growth.{IsGrownList, sorted_triangle}
+use Rattle.constrained_laws.specs.Constrained.{IsConstrainedList}
 use Rattle.path_laws.specs.Places.{IsKept}
 use Rattle.path_laws.specs.KeptMesh.{IsWholeMesh}
 use Rattle.facet_recover.specs.Refilled.{AreUntangled, IsRefilledBySides}
@@ -50,10 +51,11 @@ whole_of qs ts rows whole complex r = record {
         any_of (λ q. Contains (row_faces q) (face_of t.a t.b t.c)) whole u.0 (contains_of whole u.0 u.1)
         (subst (Contains (row_faces u.0)) (sym (ascending_face t.a t.b t.c (complex.triangles k d l).first (complex.triangles k d l).second)) (contains_of (row_faces u.0) (sorted_triangle t) u.2))
 
-pub recovered_is : (qs : List Point) (ts : List FacetTriangle) (rows whole : List Tet) → rows ≡ delaunay_rows qs → IsProtected qs ts rows → IsGrownList qs ts rows whole
+pub recovered_is : (qs : List Point) (ts : List FacetTriangle) (rows whole : List Tet) → rows ≡ delaunay_rows qs → IsProtected qs ts rows → IsConstrainedList qs ts rows whole
     → (AreUntangled qs ts rows → IsRefilledBySides qs ts rows whole) → IsRecovered qs ts whole
 recovered_is qs ts rows whole e complex refilled by_sides = record {
-  refilled = subst (λ us. IsGrownList qs ts us whole) e refilled;
+  refilled = subst (λ us. IsGrownList qs ts us whole) e refilled.grown;
+  admissible = refilled.admissible;
   by_sides = λ untangled. (subst (λ us. AreUntangled qs ts us → IsRefilledBySides qs ts us whole) e by_sides untangled).refill;
-  whole_mesh = whole_of qs ts rows whole complex refilled;
+  whole_mesh = whole_of qs ts rows whole complex refilled.grown;
 }

@@ -16,7 +16,7 @@ use Rattle.segment_protect.specs.Crossing as segment
 use Rattle.facet_plane.specs.Flat.{IsFirstNotFlat}
 use Rattle.simplex_meets.specs.Crossing.{AreTrianglesMet, IsFirstCrossing}
 use Rattle.refill_laws.specs.Refill.{IsRefill}
-use Rattle.tangle_laws.specs.Tangle.{AnomalyHolds}
+use Rattle.tangle_laws.specs.Tangle.{AnomalyHolds, IsAdmissible}
 use Rattle.tangle_laws.specs.Growth.{IsGrownList}
 use Rattle.facet_recover.specs.Refilled.{HasTangle}
 use Rattle.complex_laws.specs.ComplexMesh.{IsUntangled, HasNoCrossing, IsCarved}
@@ -44,6 +44,8 @@ pub record IsComplexMesh (o : MeshOptions) (ps : List Point) (c : Complex) (m : 
   -- facet crosses
   pub whole : List Tet
   pub refilled : IsGrownList m.points m.triangles (delaunay_rows m.points) whole
+  -- each tetrahedron of the list is admissible: it is constrained Delaunay
+  pub admissible : All (IsAdmissible m.points m.triangles) whole
   pub carved : IsCarved (carving_of o.keep_hull) m.points m.triangles c.holes whole m.tetrahedra
   -- the triangles of each facet cover its region
   pub facets_covered : (k : ℕ) → k < length fs → IsCoveredAt m.points m.triangles segs fs k

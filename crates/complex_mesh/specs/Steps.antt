@@ -14,7 +14,7 @@ use Rattle.simplex_meets.specs.Crossing.{IsFirstCrossing}
 use Rattle.facet_recover.specs.Refilled.{HasTangle}
 use Rattle.complex_mesh.specs.Protection.{complex_triangles}
 use Rattle.refill_laws.specs.Refill.{IsRefill}
-use Rattle.tangle_laws.specs.Tangle.{AnomalyHolds}
+use Rattle.tangle_laws.specs.Tangle.{AnomalyHolds, IsAdmissible}
 use Rattle.tangle_laws.specs.Growth.{IsGrownList}
 use Rattle.path_laws.specs.KeptMesh.{IsWholeMesh}
 use Rattle.complex_laws.specs.ComplexMesh.{IsUntangled, IsCarved}
@@ -44,9 +44,11 @@ IsCrossingFault qs rest fs (Crossing one two) = IsFirstCrossing qs (complex_tria
 IsCrossingFault qs rest fs NoMemory = Unit {0}
 IsCrossingFault qs rest fs _ = ⊥
 
--- the whole list is the Delaunay list filled again: it fills the hull and has the facets as faces
+-- the whole list is the Delaunay list filled again: it fills the hull and has the facets as faces, and its tetrahedra
+-- are admissible
 pub record IsRecovered (qs : List Point) (ts : List FacetTriangle) (whole : List Tet) : Type 0 where
   pub refilled : IsGrownList qs ts (delaunay_rows qs) whole
+  pub admissible : All (IsAdmissible qs ts) whole
   pub by_sides : IsUntangled qs ts → IsRefill qs ts (delaunay_rows qs) whole
   pub whole_mesh : IsWholeMesh qs ts whole
 

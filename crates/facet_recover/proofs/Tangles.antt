@@ -4,14 +4,19 @@ use Rattle.std.specs.Prelude.{All, Contains}
 use Rattle.std.specs.List.{slice_index_or}
 use Rattle.sign_predicates.specs.Point.{Point}
 use Rattle.geo_laws.specs.Faces.{row_faces, faces_of_rows, face_of}
+use Rattle.geo_laws.specs.Delaunay.{all_numbers, HasDistinctPoints, IsDelaunay}
 use Rattle.geo_laws.specs.declared.tetrahedra.Tet.{Tet}
 use Rattle.geo_laws.specs.declared.complex.FacetTriangle.{FacetTriangle}
 use Rattle.geo_laws.proofs.Members.{contains_of, member_of, at_place, in_flat_map}
+use Rattle.geo_laws.proofs.Corners.{all_within, on_of_among}
 use Rattle.refill_laws.specs.Protected.{IsCircleTriangle}
 use Rattle.refill_laws.specs.Refill.{kept_row, IsRefill}
 use Rattle.refill_laws.specs.Laws.{IsRefillable, IsRefilled as BySides}
 use Rattle.refill_laws.proofs.Refill.{law_refill}
 use Rattle.tangle_laws.specs.Growth.{IsGrownList}
+use Rattle.constrained_laws.specs.Constrained.{HasTetrahedron, IsConstrainedList}
+use Rattle.constrained_laws.proofs.Grown.{whole_of_grown, law_grown_admissible}
+use Rattle.constrained_laws.proofs.Refilled.{law_refilled_points}
 use Rattle.tangle_fill.specs.Fill.{AreFacetTriangles, IsFaultOf}
 use Rattle.tangle_fill.specs.declared.fault.FillFault.{FillFault}
 use Rattle.tangle_fill.specs.declared.fault.FillFault.TheVariants as filling
@@ -56,6 +61,22 @@ refilled_by_sides ps ts rows whole can refill = record {
   where
     h : BySides ps ts rows whole
     h = law_refill ps ts rows whole can refill
+
+-- and its tetrahedra are admissible, since each point is a corner
+pub constrained_by_sides : (ps : List Point) (ts : List FacetTriangle) (rows whole : List Tet) → HasDistinctPoints ps → IsRefillable ps ts rows → IsRefill ps ts rows whole → IsConstrainedList ps ts rows whole
+constrained_by_sides ps ts rows whole distinct can refill = record {
+  grown = grown;
+  admissible = law_grown_admissible ps ts rows whole grown (law_refilled_points ps ts rows whole distinct some can.list (whole_of_grown ps ts rows whole grown) refill);
+}
+  where
+    grown : IsGrownList ps ts rows whole
+    grown = refilled_by_sides ps ts rows whole can refill
+
+    delaunay : IsDelaunay ps can.some
+    delaunay = (can.list.exactly can.some).0 can.is_some
+
+    some : HasTetrahedron ps
+    some = (can.some, on_of_among ps (all_numbers ps) can.some (all_within ps) delaunay.is_on, delaunay.is_positive)
 
 pub by_sides : (ps : List Point) (ts : List FacetTriangle) (rows whole : List Tet) → IsRefillable ps ts rows → IsRefill ps ts rows whole → IsRefilledBySides ps ts rows whole
 by_sides ps ts rows whole can refill = record { refill = refill; sides_kept = (law_refill ps ts rows whole can refill).sides_kept }

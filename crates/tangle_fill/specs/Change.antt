@@ -27,6 +27,10 @@ pub record IsRest (list other rest : List Tet) : Type 0 where
 abbrev pub KeepsMarks : List Bool → List Bool → Type 0
 KeepsMarks old new = (i : ℕ) → IsTrue (is_marked old i) → IsTrue (is_marked new i)
 
+-- and no others are marked but those with the property
+abbrev pub MarksOnly : (ℕ → Type 0) → List Bool → List Bool → Type 0
+MarksOnly P old new = (i : ℕ) → IsTrue (is_marked new i) → IsTrue (is_marked old i) ⊎ P i
+
 -- all corners of the tetrahedron are marked
 pub record IsMarkedRow (marks : List Bool) (t : Tet) : Type 0 where
   pub a : IsTrue (is_marked marks t.a)

@@ -7,6 +7,7 @@ ghost use Rattle.geo_laws.specs.OrientedFace.{reversed};
 ghost use Rattle.geo_laws.specs.declared.tetrahedra.Tet.{Tet};
 ghost use Rattle.tangle_laws.specs.Tangle.{lies_on};
 ghost use Rattle.tangle_laws.specs.Growth.{IsAlone, IsSmooth, IsGrownList};
+ghost use Rattle.constrained_laws.specs.Constrained.{IsConstrainedList};
 ghost use Rattle.tangle_fill.specs.Fill.{as_oriented, IsFaceOn, AreFacetTriangles};
 ghost use Rattle.tangle_fill.specs.Indexed.{IsIndexed};
 ghost use Rattle.tangle_fill.specs.Removed.{AreAmong, IsBareIn};
@@ -15,6 +16,7 @@ ghost use Rattle.tangle_fill.specs.Change.{IsChange, IsFilledNear, IsClosedNear}
 ghost use Rattle.geo_laws.specs.Facet.{IsUncrossed};
 
 use crate::change::{Change, change_of, is_marked_face};
+use crate::corners::has_each_point;
 use crate::crossed::uncrossed_near;
 use crate::growth::Growth;
 use crate::search::has_point_on;
@@ -381,12 +383,16 @@ pub(crate) fn accepted_by(
     requires few { length points.now < 2 ^ 32 - 1 }
     requires facets { AreFacetTriangles points.now triangles.now }
     requires delaunay { IsDelaunayList points.now list.now }
-    ensures { IfOk result (λ found. IfSome found (IsGrownList points.now triangles.now list.now)) }
+    ensures { IfOk result
+        (λ found. IfSome found (IsConstrainedList points.now triangles.now list.now)) }
 {
     candidate.keep_distinct();
     let Some(change) = change_of(alloc, points, list, triangles, candidate)? else {
         return Ok(None);
     };
+    if !has_each_point(alloc, points, &change.rows)? {
+        return Ok(None);
+    }
     if is_refilled(alloc, points, list, triangles, &change, likely)? {
         Ok(Some(change.rows))
     } else {
@@ -397,7 +403,8 @@ pub(crate) fn accepted_by(
 /// The candidate in order, where it is the Delaunay list refilled round the facets; None where the
 /// tests do not show this. However it was found, each tetrahedron that is not of the Delaunay list
 /// is tested alone and across its faces, so that no search for points is needed, and of the others
-/// only those near the change. Only tests call it.
+/// only those near the change; and each point has to be a corner. Then all tetrahedra are
+/// admissible (constrained Delaunay). Only tests call it.
 pub fn accepted(
     alloc: Global,
     points: &Points,
@@ -408,7 +415,8 @@ pub fn accepted(
     requires few { length points.now < 2 ^ 32 - 1 }
     requires facets { AreFacetTriangles points.now triangles.now }
     requires delaunay { IsDelaunayList points.now list.now }
-    ensures { IfOk result (λ found. IfSome found (IsGrownList points.now triangles.now list.now)) }
+    ensures { IfOk result
+        (λ found. IfSome found (IsConstrainedList points.now triangles.now list.now)) }
 {
     let unknown = Items::new(alloc);
     accepted_by(alloc, points, list, triangles, candidate, &unknown)

@@ -1,12 +1,13 @@
 //! The difference of a candidate list from the Delaunay list, and the tetrahedra near it.
 ghost use Rattle.std.specs.Prelude.{◌≡◌, false, IsTrue, IfOk, IfSome, OnOk, All, Contains};
 ghost use Rattle.sign_predicates.specs.Orientation.{IsPositive};
-ghost use Rattle.geo_laws.specs.Delaunay.{IsOn, IsArranged};
+ghost use Rattle.geo_laws.specs.Delaunay.{numbers, IsOn, IsArranged};
+ghost use Rattle.constrained_laws.specs.Constrained.{IsCornerOfSome};
 ghost use Rattle.tangle_fill.specs.Fill.{as_oriented};
 ghost use Rattle.tangle_fill.specs.Indexed.{IsIndexed};
 ghost use Rattle.tangle_fill.specs.Removed.{IsRemoved};
 ghost use Rattle.tangle_fill.specs.Accept.{IsRow, AreArrangedRows};
-ghost use Rattle.tangle_fill.specs.Change.{IsRest, KeepsMarks, IsMarkedRow, IsMarkedFace, HasNoMarkedFace, IsPutApart, HoldsNearRows, IsChange};
+ghost use Rattle.tangle_fill.specs.Change.{IsRest, KeepsMarks, MarksOnly, IsMarkedRow, IsMarkedFace, HasNoMarkedFace, IsPutApart, HoldsNearRows, IsChange};
 ghost use Rattle.geo_laws.specs.Marks.{is_marked};
 
 use crate::admit::{is_arranged, is_row};
@@ -103,6 +104,7 @@ fn indexed(alloc: Global, rows: &TetList) -> Result<Growth, NoMemory>
 fn mark(marks: &mut Vec<bool>, number: u32) -> Result<(), NoMemory>
     ensures marked { OnOk result (IsTrue (is_marked marks.new.items number)) }
     ensures kept { OnOk result (KeepsMarks marks.old.items marks.new.items) }
+    ensures only { OnOk result (MarksOnly (λ i. i ≡ number) marks.old.items marks.new.items) }
 {
     let place = number as usize;
     if marks.len() <= place {
@@ -116,6 +118,8 @@ fn mark(marks: &mut Vec<bool>, number: u32) -> Result<(), NoMemory>
 fn mark_row(marks: &mut Vec<bool>, row: Tet) -> Result<(), NoMemory>
     ensures marked { OnOk result (IsMarkedRow marks.new.items row) }
     ensures kept { OnOk result (KeepsMarks marks.old.items marks.new.items) }
+    ensures only { OnOk result
+        (MarksOnly (Contains (numbers row)) marks.old.items marks.new.items) }
 {
     mark(marks, row.a)?;
     mark(marks, row.b)?;
@@ -125,9 +129,11 @@ fn mark_row(marks: &mut Vec<bool>, row: Tet) -> Result<(), NoMemory>
 }
 
 /// Marks the corners of all tetrahedra.
-fn mark_rows(marks: &mut Vec<bool>, rows: &TetList) -> Result<(), NoMemory>
+pub(crate) fn mark_rows(marks: &mut Vec<bool>, rows: &TetList) -> Result<(), NoMemory>
     ensures marked { OnOk result (All (IsMarkedRow marks.new.items) rows.now) }
     ensures kept { OnOk result (KeepsMarks marks.old.items marks.new.items) }
+    ensures only { OnOk result
+        (MarksOnly (IsCornerOfSome rows.now) marks.old.items marks.new.items) }
 {
     for i in 0..rows.len() {
         mark_row(marks, rows.at(i))?;

@@ -1,3 +1,4 @@
+use Rattle.tangle_fill.proofs.Marking.{marks_row}
 use Rattle.tangle_fill.proofs.change.mark_row.Goals as goal
 
 pub returns-clause-marked : goal.returns-clause-marked
@@ -11,3 +12,6 @@ returns-clause-marked c =
       c = q _ c.in_ok-mark-3.ensures.marked;
       d = c.in_ok-mark-4.ensures.marked;
     }
+
+pub returns-clause-only : goal.returns-clause-only
+returns-clause-only c = marks_row c.args.row _ _ _ _ _ c.in_ok-mark.ensures.only c.in_ok-mark-2.ensures.only c.in_ok-mark-3.ensures.only c.in_ok-mark-4.ensures.only

@@ -31,6 +31,12 @@ test_bent-requires-clause-whole c =
 pub returns : goal.returns
 returns c =
     let one = c.in_ok-test_count.ensures in
-    law_refilled c.args.complex.now.points.now c.args.complex.now.triangles.now c.args.list.now c.keep_distinct.new.self c.args.complex.now.facets.ascend c.args.complex.now.facets.spans
-    (ordered_grown c.args.complex.now.points.now c.args.complex.now.triangles.now c.args.list.now c.in_ok-growth.growth.rows c.keep_distinct.new.self c.keep_distinct.ensures.exactly c.keep_distinct.ensures.ascending c.in_ok-growth.ensures.grown)
-    (rows_ascend c.keep_distinct.new.self c.keep_distinct.ensures.ascending) one.0 one.1 one.2 c.in_ok-test_bent.ensures
+    let grown =
+    ordered_grown c.args.complex.now.points.now c.args.complex.now.triangles.now c.args.list.now c.in_ok-growth.growth.rows c.keep_distinct.new.self c.keep_distinct.ensures.exactly c.keep_distinct.ensures.ascending
+    c.in_ok-growth.ensures.grown
+    in
+    record {
+      grown = law_refilled c.args.complex.now.points.now c.args.complex.now.triangles.now c.args.list.now c.keep_distinct.new.self c.args.complex.now.facets.ascend c.args.complex.now.facets.spans
+          grown (rows_ascend c.keep_distinct.new.self c.keep_distinct.ensures.ascending) one.0 one.1 one.2 c.in_ok-test_bent.ensures;
+      admissible = grown.growth.admissible;
+    }
