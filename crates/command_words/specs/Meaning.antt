@@ -34,9 +34,9 @@ is_piecewise asked (Some Stl) = true
 
 -- ---- the options
 
--- no file of the whole mesh in another format
+-- no file of the whole mesh in another format, and tetrahedra of first order
 abbrev pub no_formats : Formats
-no_formats = record { vtk = false; msh = false }
+no_formats = record { vtk = false; msh = false; second_order = false }
 
 -- What the words ask for; 112 is p, 110 n, 102 f, 101 e, 122 z, 99 c, 65 A, 81 Q, 78 N, 69 E, 70 F, 77 M, 114 r and 119
 -- w. For the sample no file is stored. The words ask for at most `halvings` halvings, and for that number where they

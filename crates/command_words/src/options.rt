@@ -18,13 +18,16 @@ pub enum Extension {
     Stl,
 }
 
-/// The files that have a whole mesh, in formats that viewers and solvers read.
+/// The files that have a whole mesh, in formats that viewers and solvers read, and the order of the
+/// tetrahedra in all files.
 #[derive(Clone, Copy, Debug, PartialEq, Eq)]
 pub struct Formats {
     /// Write the `.vtk` file.
     pub vtk: bool,
     /// Write the `.msh` file.
     pub msh: bool,
+    /// Write tetrahedra and faces of second order, which have the midpoints of their edges too.
+    pub second_order: bool,
 }
 
 /// What the words of the command line ask for.
@@ -57,7 +60,8 @@ pub struct Options {
     pub no_ele: bool,
     /// No `.face` file and no `.edge` file.
     pub no_face: bool,
-    /// The files of the whole mesh in other formats. No word of this grammar asks for one.
+    /// The files of the whole mesh in other formats, and the order of tetrahedra. No word of this
+    /// grammar asks for one, or for second order.
     pub formats: Formats,
     /// Do not merge coplanar facets of a complex: each side of a facet is a segment.
     pub keep_facets: bool,

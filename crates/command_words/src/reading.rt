@@ -78,13 +78,14 @@ pub fn read_words_within(alloc: Global, words: &Words, halvings: u32) -> Result<
     })
 }
 
-/// No file of the whole mesh in another format.
+/// No file of the whole mesh in another format, and tetrahedra of first order.
 fn no_formats() -> Formats
     ensures { result ≡ no_formats }
 {
     Formats {
         vtk: false,
         msh: false,
+        second_order: false,
     }
 }
 

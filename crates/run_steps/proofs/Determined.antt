@@ -2,20 +2,23 @@
 use Rattle.std.proofs.Common.{◌≡◌, ◌⊎◌, inl, inr, ℕ, suc, ◌<◌, Bool, true, false, not, ◌||◌, ◌&&◌, List, [], ◌∷◌, length, Some, None, if◌then◌else◌, refl, sym, ap, ◌∙◌, subst, arith}
 use Rattle.std.specs.Prelude.{AllPairs, Contains, ◌↔◌, codes}
 use Rattle.std.proofs.lemmas.Bool.{true≢false}
-use Rattle.geo_laws.specs.Faces.{FaceBefore, SideBefore, faces_of_rows, sides_of_rows}
+use Rattle.geo_laws.specs.Faces.{FaceBefore, SideBefore, faces_of_rows, sides_of_rows, AreFacesOf, AreSidesOf}
+use Rattle.geo_laws.specs.declared.tetrahedra.Tet.{Tet}
 use Rattle.geo_laws.specs.declared.faces.Face.{Face}
 use Rattle.geo_laws.specs.declared.faces.Side.{Side}
 use Rattle.geo_laws.proofs.Members.{contains_of, found_of, member_of}
 use Rattle.geo_laws.proofs.Ascending.{Rises, none, more, rises-same}
-use Rattle.mesh_files.specs.FaceRows.{corners_of, IsFaceRow}
+use Rattle.mesh_files.specs.FaceRows.{corners_of, AreFaceRowsOf, IsFaceRow}
 use Rattle.mesh_files.specs.Texts.{face_text, edge_text}
 use Rattle.mesh_files.specs.declared.markers.FaceRow.{FaceRow}
 use Rattle.run_steps.proofs.Asked.{asked_by_face, asked_by_msh, asked_by_vtk}
-use Rattle.run_steps.specs.Outputs.{named, first_of, face_file, edge_file, vtk_file, msh_file, whole_of, summary_of, report_of, names_sides, asks_faces, AreOutputsOf}
+use Rattle.run_steps.specs.Outputs.{named, first_of, face_file, edge_file, neigh_file, vtk_file, msh_file, whole_of, summary_of, report_of, names_sides, asks_faces}
+use Rattle.run_steps.specs.Outputs.{is_second_order, second_in, second_texts, AreFirstOutputsOf, AreOutputsIn, AreOutputsOf, AreSecondOutputsOf}
 use Rattle.solver_files.specs.Msh.{msh_text}
 use Rattle.solver_files.specs.Vtk.{vtk_text}
 use Rattle.run_steps.specs.declared.meshed.Meshed.{Meshed}
 use Rattle.run_steps.specs.declared.outputs.Outputs.{Outputs}
+use Rattle.run_steps.specs.declared.store.Texts.{Texts}
 use Rattle.run_steps.specs.declared.report.Report.TheVariants.{Mesh}
 use Rattle.command_words.specs.declared.options.Options.{Options}
 
@@ -62,25 +65,34 @@ sides_in_report : (quiet no_face edges : Bool) → quiet ≡ false → (not quie
 sides_in_report true no_face edges h = absurd (true≢false h)
 sides_in_report false no_face edges h = refl
 
-module _ (options : Options) (mesh : Meshed) (p q : Outputs) (a : AreOutputsOf options mesh p) (b : AreOutputsOf options mesh q) where
+face_rows_same : (mesh : Meshed) (all : Bool) (xs ys : List FaceRow) → AreFaceRowsOf mesh.points mesh.tetrahedra mesh.complex mesh.triangles all xs
+    → AreFaceRowsOf mesh.points mesh.tetrahedra mesh.complex mesh.triangles all ys → xs ≡ ys
+face_rows_same mesh all xs ys one two =
+    lists_same (λ r s. FaceBefore (corners_of r) (corners_of s)) (λ r s. faces_never (corners_of r) (corners_of s))
+    (IsFaceRow mesh.points mesh.tetrahedra mesh.complex mesh.triangles all) xs ys one.ascending two.ascending one.exactly two.exactly
+
+faces_once : (rows : List Tet) (xs ys : List Face) → AreFacesOf rows xs → AreFacesOf rows ys → xs ≡ ys
+faces_once rows xs ys one two = lists_same FaceBefore faces_never (Contains (faces_of_rows rows)) xs ys one.ascending two.ascending one.exactly two.exactly
+
+sides_once : (rows : List Tet) (xs ys : List Side) → AreSidesOf rows xs → AreSidesOf rows ys → xs ≡ ys
+sides_once rows xs ys one two = lists_same SideBefore sides_never (Contains (sides_of_rows rows)) xs ys one.ascending two.ascending one.exactly two.exactly
+
+reports_same : (options : Options) (mesh : Meshed) (f g : List Face) (s t : List Side) → (options.quiet ≡ false → f ≡ g) → (options.quiet ≡ false → s ≡ t)
+    → report_of options mesh (length f) (length s) ≡ report_of options mesh (length g) (length t)
+reports_same options mesh f g s t faces sides = choice options.quiet _ _ None (λ e.
+    ap (λ (f : List Face). Some (Mesh (summary_of mesh (length f) (length s)) [])) (faces e)
+    ∙ ap (λ (s : List Side). Some (Mesh (summary_of mesh (length g) (length s)) [])) (sides e))
+
+-- of first order
+module _ (options : Options) (mesh : Meshed) (p q : Outputs) (a : AreFirstOutputsOf options mesh p) (b : AreFirstOutputsOf options mesh q) where
   marked_same : asks_faces options ≡ true → a.marked ≡ b.marked
-  marked_same e =
-      let one = a.marked_are e in
-      let two = b.marked_are e in
-      lists_same (λ r s. FaceBefore (corners_of r) (corners_of s)) (λ r s. faces_never (corners_of r) (corners_of s))
-      (IsFaceRow mesh.points mesh.tetrahedra mesh.complex mesh.triangles options.all_faces) a.marked b.marked one.ascending two.ascending one.exactly two.exactly
+  marked_same e = face_rows_same mesh options.all_faces a.marked b.marked (a.marked_are e) (b.marked_are e)
 
   faces_same : options.quiet ≡ false → a.faces ≡ b.faces
-  faces_same e =
-      let one = a.faces_are e in
-      let two = b.faces_are e in
-      lists_same FaceBefore faces_never (Contains (faces_of_rows mesh.tetrahedra)) a.faces b.faces one.ascending two.ascending one.exactly two.exactly
+  faces_same e = faces_once mesh.tetrahedra a.faces b.faces (a.faces_are e) (b.faces_are e)
 
   sides_same : names_sides options ≡ true → a.sides ≡ b.sides
-  sides_same e =
-      let one = a.sides_are e in
-      let two = b.sides_are e in
-      lists_same SideBefore sides_never (Contains (sides_of_rows mesh.tetrahedra)) a.sides b.sides one.ascending two.ascending one.exactly two.exactly
+  sides_same e = sides_once mesh.tetrahedra a.sides b.sides (a.sides_are e) (b.sides_are e)
 
   face_files : face_file options mesh a.marked ≡ face_file options mesh b.marked
   face_files = choice options.no_face _ _ None (λ e. ap (λ (m : List FaceRow). Some (named options.base (codes ".1.face") (face_text mesh.names (first_of options mesh) m))) (marked_same (asked_by_face options.no_face options.formats.vtk options.formats.msh e)))
@@ -97,13 +109,10 @@ module _ (options : Options) (mesh : Meshed) (p q : Outputs) (a : AreOutputsOf o
       (λ e. ap (λ (s : List Side). Some (named options.base (codes ".1.edge") (edge_text mesh.names (first_of options mesh) s))) (sides_same (sides_in_file options.quiet options.no_face options.edges e)))
 
   reports : report_of options mesh (length a.faces) (length a.sides) ≡ report_of options mesh (length b.faces) (length b.sides)
-  reports = choice options.quiet _ _ None (λ e.
-      ap (λ (f : List Face). Some (Mesh (summary_of mesh (length f) (length a.sides)) [])) (faces_same e)
-      ∙ ap (λ (s : List Side). Some (Mesh (summary_of mesh (length b.faces) (length s)) [])) (sides_same (sides_in_report options.quiet options.no_face options.edges e)))
+  reports = reports_same options mesh a.faces b.faces a.sides b.sides faces_same (λ e. sides_same (sides_in_report options.quiet options.no_face options.edges e))
 
-  -- two outputs of one mesh are the same
-  pub outputs_same : p ≡ q
-  outputs_same =
+  first_same : p ≡ q
+  first_same =
       let node = a.node_is ∙ sym b.node_is in
       let ele = a.ele_is ∙ sym b.ele_is in
       let face = a.face_is ∙ face_files ∙ sym b.face_is in
@@ -113,3 +122,26 @@ module _ (options : Options) (mesh : Meshed) (p q : Outputs) (a : AreOutputsOf o
       let msh = a.msh_is ∙ msh_files ∙ sym b.msh_is in
       let report = a.report_is ∙ reports ∙ sym b.report_is in
       λ i. record { texts = record { node = node i; ele = ele i; face = face i; edge = edge i; neigh = neigh i; vtk = vtk i; msh = msh i }; report = report i }
+
+-- of second order
+module _ (options : Options) (mesh : Meshed) (p q : Outputs) (a : AreSecondOutputsOf options mesh p) (b : AreSecondOutputsOf options mesh q) where
+  abbrev texts_by : List FaceRow → List Side → Texts
+  texts_by m s = second_texts options (first_of options mesh) (edge_file options mesh s) (neigh_file options mesh) (second_in options.origin mesh m s)
+
+  second_same : p ≡ q
+  second_same =
+      let sides = sides_once mesh.tetrahedra a.sides b.sides a.sides_are b.sides_are in
+      let texts =
+      a.texts_are ∙ ap (λ (m : List FaceRow). texts_by m a.sides) (face_rows_same mesh options.all_faces a.marked b.marked a.marked_are b.marked_are)
+      ∙ ap (λ (s : List Side). texts_by b.marked s) sides ∙ sym b.texts_are in
+      let faces = faces_once mesh.tetrahedra a.faces b.faces a.faces_are b.faces_are in
+      let report = a.report_is ∙ reports_same options mesh a.faces b.faces a.sides b.sides (λ e. faces) (λ e. sides) ∙ sym b.report_is in
+      λ i. record { texts = texts i; report = report i }
+
+-- two outputs of one mesh are the same
+pub outputs_same : (options : Options) (mesh : Meshed) (p q : Outputs) → AreOutputsOf options mesh p → AreOutputsOf options mesh q → p ≡ q
+outputs_same options mesh p q a b = go (is_second_order options mesh) a b
+  where
+    go : (second_order : Bool) → AreOutputsIn second_order options mesh p → AreOutputsIn second_order options mesh q → p ≡ q
+    go false a b = first_same options mesh p q a b
+    go true a b = second_same options mesh p q a b

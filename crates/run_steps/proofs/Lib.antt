@@ -4,6 +4,7 @@ pub mod Inputs
 pub mod Meshables
 pub mod Named
 pub mod Once
+pub mod Pieces
 pub mod Refusals
 pub mod Steps
 pub mod Unbound

@@ -1,5 +1,5 @@
 -- The files and the summary of a mesh.
-use Rattle.std.specs.Prelude.{◌≡◌, ℕ, ◌+◌, ◌<◌, ◌^◌, Bool, true, false, ◌||◌, ◌&&◌, not, List, [], ◌++◌, length, All, AllPairs, Option, Some, None, IfSome, codes, if◌then◌else◌}
+use Rattle.std.specs.Prelude.{◌≡◌, ℕ, ◌+◌, ◌<◌, ◌^◌, nat_lt, Bool, true, false, ◌||◌, ◌&&◌, not, List, [], ◌++◌, length, All, AllPairs, Option, Some, None, IfSome, codes, if◌then◌else◌}
 use Rattle.geo_laws.specs.Delaunay.{numbers, RowBefore}
 use Rattle.geo_laws.specs.Faces.{AreFacesOf, AreHullFacesOf, AreSidesOf}
 use Rattle.geo_laws.specs.declared.faces.Face.{Face}
@@ -9,12 +9,12 @@ use Rattle.mesh_files.specs.FaceRows.{AreFaceRowsOf, AreTrianglesMetByFaces, Are
 use Rattle.mesh_files.specs.Texts.{ele_text_of, face_text, edge_text, neigh_text, AreNamed}
 use Rattle.mesh_files.specs.declared.markers.FaceRow.{FaceRow}
 use Rattle.node_files.specs.Writing.{node_text_from, IsNodeTable}
-use Rattle.mesh_check.specs.Messages.{file_message}
 use Rattle.grid_coords.specs.declared.origin.WholePoint.{WholePoint}
 use Rattle.solver_files.specs.Mesh.{Mesh as WholeMesh}
 use Rattle.solver_files.specs.Msh.{msh_text}
+use Rattle.solver_files.specs.Second.{Second}
+use Rattle.solver_files.specs.SecondTexts.{second_ele_text, second_face_text, second_msh_text, second_node_text, second_vtk_text}
 use Rattle.solver_files.specs.Vtk.{vtk_text}
-use Rattle.run_steps.specs.Messages.{tetgen_name}
 use Rattle.run_steps.specs.declared.meshed.Meshed.{Meshed}
 use Rattle.run_steps.specs.declared.outputs.Outputs.{Outputs}
 use Rattle.run_steps.specs.declared.outputs.FaceFiles.{FaceFiles}
@@ -24,15 +24,12 @@ use Rattle.run_steps.specs.declared.report.Report.{Report}
 use Rattle.run_steps.specs.declared.report.Report.TheVariants.{Mesh}
 use Rattle.run_steps.specs.declared.report.Summary.{Summary}
 use Rattle.run_steps.specs.declared.store.NamedText.{NamedText}
+use Rattle.run_steps.specs.declared.store.Texts.{Texts}
 use Rattle.command_words.specs.declared.options.Options.{Options}
 
 -- a text under the base with an extension
 abbrev pub named : List ℕ → List ℕ → List ℕ → NamedText
-named base extension content = record {
-  name = base ++ extension;
-  content = content;
-  message = file_message tetgen_name (base ++ extension) (codes "write failed");
-}
+named base extension content = record { name = base ++ extension; content = content }
 
 -- the number of the first tetrahedron, face, edge and point in the files
 abbrev pub first_of : Options → Meshed → ℕ
@@ -169,9 +166,9 @@ pub record AreSideOutputsOf (options : Options) (mesh : Meshed) (outputs : SideO
   pub edge_is : outputs.edge ≡ edge_file options mesh sides
   pub count_is : outputs.count ≡ length sides
 
--- The files and the summary of a mesh. Faces and edges are those of its tetrahedra, where a file or the summary needs
--- them
-pub record AreOutputsOf (options : Options) (mesh : Meshed) (outputs : Outputs) : Type 0 where
+-- The files of first order and the summary of a mesh. Faces and edges are those of its tetrahedra, where a file or the
+-- summary needs them
+pub record AreFirstOutputsOf (options : Options) (mesh : Meshed) (outputs : Outputs) : Type 0 where
   pub marked : List FaceRow
   pub marked_are : asks_faces options ≡ true
       → AreFaceRowsOf mesh.points mesh.tetrahedra mesh.complex mesh.triangles options.all_faces marked
@@ -187,3 +184,63 @@ pub record AreOutputsOf (options : Options) (mesh : Meshed) (outputs : Outputs) 
   pub vtk_is : outputs.texts.vtk ≡ vtk_file options mesh marked
   pub msh_is : outputs.texts.msh ≡ msh_file options mesh marked
   pub report_is : outputs.report ≡ report_of options mesh (length faces) (length sides)
+
+-- ---- second order
+
+-- the mesh with these faces and edges, as files of second order have it
+abbrev pub second_in : Option WholePoint → Meshed → List FaceRow → List Side → Second
+second_in origin mesh faces sides = record { mesh = whole_of origin mesh faces; sides = sides; points = mesh.points }
+
+abbrev pub second_node_file : Options → ℕ → Second → Option NamedText
+second_node_file options first m = if options.no_node then None else Some (named options.base (codes ".1.node") (second_node_text m first))
+
+abbrev pub second_ele_file : Options → ℕ → Second → Option NamedText
+second_ele_file options first m = if options.no_ele then None else Some (named options.base (codes ".1.ele") (second_ele_text m first))
+
+abbrev pub second_face_file : Options → ℕ → Second → Option NamedText
+second_face_file options first m = if options.no_face then None else Some (named options.base (codes ".1.face") (second_face_text m first))
+
+abbrev pub second_vtk_file : Options → Second → Option NamedText
+second_vtk_file options m = if not options.formats.vtk then None else Some (named options.base (codes ".1.vtk") (second_vtk_text m))
+
+abbrev pub second_msh_file : Options → Second → Option NamedText
+second_msh_file options m = if not options.formats.msh then None else Some (named options.base (codes ".1.msh") (second_msh_text m))
+
+-- The files of second order, with those of edges and of neighbors
+abbrev pub second_texts : Options → ℕ → Option NamedText → Option NamedText → Second → Texts
+second_texts options first edge neigh m = record {
+  node = second_node_file options first m;
+  ele = second_ele_file options first m;
+  face = second_face_file options first m;
+  edge = edge;
+  neigh = neigh;
+  vtk = second_vtk_file options m;
+  msh = second_msh_file options m;
+}
+
+-- The files of second order and the summary of a mesh; those of edges and of neighbors are as ever. Faces and edges are
+-- those of its tetrahedra
+pub record AreSecondOutputsOf (options : Options) (mesh : Meshed) (outputs : Outputs) : Type 0 where
+  pub marked : List FaceRow
+  pub marked_are : AreFaceRowsOf mesh.points mesh.tetrahedra mesh.complex mesh.triangles options.all_faces marked
+  pub faces : List Face
+  pub faces_are : AreFacesOf mesh.tetrahedra faces
+  pub sides : List Side
+  pub sides_are : AreSidesOf mesh.tetrahedra sides
+  pub texts_are : outputs.texts ≡ second_texts options (first_of options mesh) (edge_file options mesh sides) (neigh_file options mesh)
+      (second_in options.origin mesh marked sides)
+  pub report_is : outputs.report ≡ report_of options mesh (length faces) (length sides)
+
+-- ---- the order that is asked for
+
+-- whether the files are of second order: the options ask for it, and the grid has a halving left for midpoints
+abbrev pub is_second_order : Options → Meshed → Bool
+is_second_order options mesh = options.formats.second_order && nat_lt mesh.table.grid.halvings 18
+
+abbrev pub AreOutputsIn : Bool → Options → Meshed → Outputs → Type 0
+AreOutputsIn false options mesh outputs = AreFirstOutputsOf options mesh outputs
+AreOutputsIn true options mesh outputs = AreSecondOutputsOf options mesh outputs
+
+-- the files and the summary of a mesh
+abbrev pub AreOutputsOf : Options → Meshed → Outputs → Type 0
+AreOutputsOf options mesh outputs = AreOutputsIn (is_second_order options mesh) options mesh outputs

@@ -3,9 +3,9 @@
 use geo_laws::{Complex, FacetTriangles, Points, TetList};
 use grid_coords::WholePoint;
 use hole_carve::Marks;
-use mesh_files::{FaceRows, Faces, MarkedList};
+use mesh_files::{Edges, FaceRows, Faces, MarkedList};
 use node_files::{Names, NodeTable};
-use solver_files::WholeMesh;
+use solver_files::{SecondMesh, WholeMesh};
 
 /// A mesh, with the points and the complex that it is one of. Points are named by their places,
 /// from 0, the added ones after the kept ones of the table.
@@ -35,7 +35,8 @@ pub struct Meshed {
 impl Meshed {
     ghost use Rattle.std.specs.Prelude.{◌≡◌};
     ghost use Rattle.solver_files.specs.Mesh.{mesh_of};
-    ghost use Rattle.run_steps.specs.Outputs.{whole_of};
+    ghost use Rattle.solver_files.specs.Second.{second_of};
+    ghost use Rattle.run_steps.specs.Outputs.{second_in, whole_of};
 
     /// The mesh with these faces, as one file has it whole. Coordinates are measured from `origin`.
     pub(crate) fn whole<'a>(
@@ -54,6 +55,22 @@ impl Meshed {
             complex: &self.complex,
             faces,
             names: &self.names,
+        }
+    }
+
+    /// The mesh with these faces and edges, as files of second order have it.
+    pub(crate) fn second<'a>(
+        &'a self,
+        origin: Option<WholePoint>,
+        faces: &'a FaceRows,
+        sides: &'a Edges,
+    ) -> SecondMesh<'a>
+        ensures { second_of result ≡ second_in origin self.now faces.now sides.now }
+    {
+        SecondMesh {
+            whole: self.whole(origin, faces),
+            sides,
+            points: &self.points,
         }
     }
 

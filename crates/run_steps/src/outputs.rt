@@ -10,16 +10,14 @@ ghost use Rattle.mesh_files.specs.Texts.{marked_corners, AreNamed};
 ghost use Rattle.node_files.specs.Writing.{IsNearGrid};
 ghost use Rattle.run_steps.specs.Outputs.{named, first_of, node_file, ele_file, face_file, edge_file, neigh_file, vtk_file, msh_file, report_of};
 ghost use Rattle.run_steps.specs.Outputs.{names_sides, asks_faces, asks_uses, asks_hull_alone, IsWritable};
-ghost use Rattle.run_steps.specs.Outputs.{IsHullOf, AreFaceFilesOf, AreFaceOutputsOf, AreSideOutputsOf, AreOutputsOf};
-ghost use Rattle.run_steps.specs.Stores.{in_order, TellsFailure};
+ghost use Rattle.run_steps.specs.Outputs.{is_second_order, IsHullOf, AreFaceFilesOf, AreFaceOutputsOf, AreSideOutputsOf, AreFirstOutputsOf, AreOutputsOf};
 
 use crate::meshed::{HulledMesh, Meshed};
-use crate::messages::NAME;
 use crate::report::{Report, Summary};
+use crate::second_outputs::second_outputs;
 use crate::store::{NamedText, Texts};
 use command_words::{Options, with_extension};
 use incidence::{Uses, pair_uses, uses_of};
-use mesh_check::file_message;
 use mesh_files::{
     Edges, FaceRows, Faces, edges_of, face_count, hull_rows, used_faces, write_all_faces,
     write_edge, write_ele, write_face, write_neigh,
@@ -68,15 +66,40 @@ struct SideOutputs {
     count: usize,
 }
 
-/// A file of a mesh, where it is asked for.
-type FileAnswer = Result<Option<NamedText>, NoMemory>;
+/// The most halvings of a grid whose points are written.
+const MOST_HALVINGS: u32 = 18;
 
-/// The files and the summary that the options ask for.
+/// A file of a mesh, where it is asked for.
+pub(crate) type FileAnswer = Result<Option<NamedText>, NoMemory>;
+
+/// The files and the summary that the options ask for. They are of second order where the options
+/// ask for that, and the grid of the mesh has a halving left for the midpoints of edges.
 pub fn outputs_of(alloc: Global, options: &Options, made: &HulledMesh) -> Result<Outputs, NoMemory>
     requires mesh { IsWritable made.now.mesh }
     requires near { IsNearGrid options.now.origin made.now.mesh.table.grid }
     requires hull { IfSome made.now.hull (IsHullOf made.now.mesh) }
     ensures { IfOk result (AreOutputsOf options.now made.now.mesh) }
+{
+    if is_second_order(options, &made.mesh) {
+        second_outputs(alloc, options, &made.mesh)
+    } else {
+        first_outputs(alloc, options, made)
+    }
+}
+
+/// Whether the files are of second order.
+fn is_second_order(options: &Options, mesh: &Meshed) -> bool
+    ensures { result ≡ is_second_order options.now mesh.now }
+{
+    options.formats.second_order && mesh.table.grid.halvings < MOST_HALVINGS
+}
+
+/// The files of first order, and the summary.
+fn first_outputs(alloc: Global, options: &Options, made: &HulledMesh) -> Result<Outputs, NoMemory>
+    requires mesh { IsWritable made.now.mesh }
+    requires near { IsNearGrid options.now.origin made.now.mesh.table.grid }
+    requires hull { IfSome made.now.hull (IsHullOf made.now.mesh) }
+    ensures { IfOk result (AreFirstOutputsOf options.now made.now.mesh) }
 {
     let mesh = &made.mesh;
     let faces = face_outputs(alloc, options, made)?;
@@ -135,7 +158,7 @@ fn row_outputs(alloc: Global, options: &Options, mesh: &Meshed) -> Result<RowOut
 }
 
 /// The number of the first tetrahedron, face, edge and point in the files.
-fn first_of(options: &Options, mesh: &Meshed) -> u32
+pub(crate) fn first_of(options: &Options, mesh: &Meshed) -> u32
     ensures { result ≡ first_of options.now mesh.now }
 {
     if options.from_zero {
@@ -456,7 +479,12 @@ fn msh_file(alloc: Global, options: &Options, mesh: &Meshed, faces: &FaceRows) -
 }
 
 /// The edge file: the edges of all tetrahedra.
-fn edge_file(alloc: Global, options: &Options, mesh: &Meshed, sides: &Edges) -> FileAnswer
+pub(crate) fn edge_file(
+    alloc: Global,
+    options: &Options,
+    mesh: &Meshed,
+    sides: &Edges,
+) -> FileAnswer
     requires { All (λ side. AreNamed mesh.now.names (side_numbers side)) sides.now }
     ensures { IfOk result (λ file. file ≡ edge_file options.now mesh.now sides.now) }
 {
@@ -468,7 +496,7 @@ fn edge_file(alloc: Global, options: &Options, mesh: &Meshed, sides: &Edges) -> 
 }
 
 /// The neighbors of each tetrahedron.
-fn neigh_file(alloc: Global, options: &Options, mesh: &Meshed, uses: &Uses) -> FileAnswer
+pub(crate) fn neigh_file(alloc: Global, options: &Options, mesh: &Meshed, uses: &Uses) -> FileAnswer
     requires { asks_uses options.now ≡ true → AreUsesOf mesh.now.tetrahedra uses.now }
     ensures { IfOk result (λ file. file ≡ neigh_file options.now mesh.now) }
 {
@@ -482,20 +510,20 @@ fn neigh_file(alloc: Global, options: &Options, mesh: &Meshed, uses: &Uses) -> F
 }
 
 /// A text under the base with an extension.
-fn named(alloc: Global, options: &Options, extension: &[u8], content: Bytes) -> FileAnswer
+pub(crate) fn named(
+    alloc: Global,
+    options: &Options,
+    extension: &[u8],
+    content: Bytes,
+) -> FileAnswer
     ensures { IfOk result (λ file. file ≡ Some (named options.now.base extension.now content)) }
 {
     let name = with_extension(alloc, &options.base, extension)?;
-    let message = file_message(alloc, NAME, &name, b"write failed")?;
-    Ok(Some(NamedText {
-        name,
-        content,
-        message,
-    }))
+    Ok(Some(NamedText { name, content }))
 }
 
 /// The counts that sum up the mesh, if they are asked for.
-fn report_of(
+pub(crate) fn report_of(
     alloc: Global,
     options: &Options,
     mesh: &Meshed,
