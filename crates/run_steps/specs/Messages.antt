@@ -51,45 +51,41 @@ abbrev pub part_text : Option Numbering → Part → List ℕ
 part_text by (Triangle t) = codes "facet " ++ facet_text t.facet ++ codes " triangle" ++ triangle_text by t
 part_text by (Segment p) = codes "segment" ++ ends_text by p
 
--- ---- lines
-
--- the beginning of each line
-abbrev pub tetgen_name : List ℕ
-tetgen_name = codes "tetgen: "
+-- ---- lines, each behind the name of the program
 
 -- the greatest number that is allowed
 abbrev pub at_most : ℕ → List ℕ
 at_most most = codes ", at most " ++ decimal most
 
-abbrev pub limit_message : LimitKind → List ℕ
-limit_message (Bytes name most) = file_message tetgen_name name (codes "over " ++ decimal most ++ codes " bytes")
-limit_message (Points count most) = line tetgen_name (decimal count ++ codes " points" ++ at_most most)
-limit_message (MeshPoints count) = line tetgen_name (decimal count ++ codes " points, at most 120000")
-limit_message (Facets count most) = line tetgen_name (decimal count ++ codes " facets" ++ at_most most)
-limit_message (Corners place count most) =
-    line tetgen_name (codes "line " ++ decimal place ++ codes ": " ++ decimal count ++ codes " corners" ++ at_most most)
-limit_message (Grid place) = line tetgen_name (codes "line " ++ decimal place ++ codes ": coordinate off the grid")
-limit_message (Weight place) = line tetgen_name (codes "line " ++ decimal place ++ codes ": weight off the grid")
+abbrev pub limit_message : List ℕ → LimitKind → List ℕ
+limit_message program (Bytes name most) = file_message program name (codes "over " ++ decimal most ++ codes " bytes")
+limit_message program (Points count most) = line program (decimal count ++ codes " points" ++ at_most most)
+limit_message program (MeshPoints count) = line program (decimal count ++ codes " points, at most 120000")
+limit_message program (Facets count most) = line program (decimal count ++ codes " facets" ++ at_most most)
+limit_message program (Corners place count most) =
+    line program (codes "line " ++ decimal place ++ codes ": " ++ decimal count ++ codes " corners" ++ at_most most)
+limit_message program (Grid place) = line program (codes "line " ++ decimal place ++ codes ": coordinate off the grid")
+limit_message program (Weight place) = line program (codes "line " ++ decimal place ++ codes ": weight off the grid")
 
 -- the message of a refusal; a run that is done has none
-abbrev pub message_of : Option Numbering → Status → List ℕ
-message_of by Done = []
-message_of by (Usage word place) = usage_message tetgen_name word place
-message_of by (Missing name) = file_message tetgen_name name (codes "not found")
-message_of by (ReadFault name) = file_message tetgen_name name (codes "read failed")
-message_of by (BadText name fault) = text_message tetgen_name name fault
-message_of by (Limit what) = limit_message what
-message_of by (Unsound defect first) = line tetgen_name (defect_text first defect)
-message_of by Flat = line tetgen_name (codes "all points lie in one plane")
-message_of by (NotFlat facet four) =
-    line tetgen_name (codes "facet " ++ facet_text facet ++ codes " is not flat: points" ++ tetrahedron_text by four)
-message_of by (SegmentsCross one two) =
-    line tetgen_name (codes "segments" ++ ends_text by one ++ codes " and" ++ ends_text by two ++ codes " cross")
-message_of by (Crossing one two) = line tetgen_name (codes "crossing: " ++ part_text by one ++ codes " and " ++ part_text by two)
-message_of by (GridEnd piece) = line tetgen_name (codes "segment" ++ ends_text by piece ++ codes " needs a finer grid")
-message_of by (BudgetEnd made piece) =
-    line tetgen_name (decimal made ++ codes " splits used, segment" ++ ends_text by piece ++ codes " is missing")
-message_of by (NoFill anomaly) = line tetgen_name (anomaly_text by anomaly)
-message_of by NoMemory = line tetgen_name (codes "out of memory")
-message_of by (WriteFault None) = line tetgen_name (codes "summary: write failed")
-message_of by (WriteFault (Some name)) = file_message tetgen_name name (codes "write failed")
+abbrev pub message_of : List ℕ → Option Numbering → Status → List ℕ
+message_of program by Done = []
+message_of program by (Usage word place) = usage_message program word place
+message_of program by (Missing name) = file_message program name (codes "not found")
+message_of program by (ReadFault name) = file_message program name (codes "read failed")
+message_of program by (BadText name fault) = text_message program name fault
+message_of program by (Limit what) = limit_message program what
+message_of program by (Unsound defect first) = line program (defect_text first defect)
+message_of program by Flat = line program (codes "all points lie in one plane")
+message_of program by (NotFlat facet four) =
+    line program (codes "facet " ++ facet_text facet ++ codes " is not flat: points" ++ tetrahedron_text by four)
+message_of program by (SegmentsCross one two) =
+    line program (codes "segments" ++ ends_text by one ++ codes " and" ++ ends_text by two ++ codes " cross")
+message_of program by (Crossing one two) = line program (codes "crossing: " ++ part_text by one ++ codes " and " ++ part_text by two)
+message_of program by (GridEnd piece) = line program (codes "segment" ++ ends_text by piece ++ codes " needs a finer grid")
+message_of program by (BudgetEnd made piece) =
+    line program (decimal made ++ codes " splits used, segment" ++ ends_text by piece ++ codes " is missing")
+message_of program by (NoFill anomaly) = line program (anomaly_text by anomaly)
+message_of program by NoMemory = line program (codes "out of memory")
+message_of program by (WriteFault None) = line program (codes "summary: write failed")
+message_of program by (WriteFault (Some name)) = file_message program name (codes "write failed")

@@ -1,8 +1,6 @@
 -- Texts that are stored one after the other.
-use Rattle.std.specs.Prelude.{◌≡◌, ℕ, List, [], ◌∷◌, ◌++◌, Option, Some, None, Contains, codes}
+use Rattle.std.specs.Prelude.{◌≡◌, ℕ, List, [], ◌∷◌, ◌++◌, Option, Some, None}
 use Rattle.tet_ports.specs.Files.{Files, PartlyStored, with_file}
-use Rattle.mesh_check.specs.Messages.{file_message}
-use Rattle.run_steps.specs.Messages.{tetgen_name}
 use Rattle.run_steps.specs.declared.store.NamedText.{NamedText}
 use Rattle.run_steps.specs.declared.store.StoreStop.{StoreStop}
 use Rattle.run_steps.specs.declared.store.StoreStop.TheVariants.{Failed, NoMemory}
@@ -39,13 +37,9 @@ pub record AreStoredInto (before : Option Files) (texts : List NamedText) (name 
   pub name_is : name ≡ text.name
   pub partly : PartlyStored (with_files before stored) name text.content now
 
--- the message says that the file with this name could not be written
-abbrev pub TellsFailure : NamedText → Type 0
-TellsFailure text = text.message ≡ file_message tetgen_name text.name (codes "write failed")
-
 -- the files after a stop
 abbrev pub AreLeft : Option Files → List NamedText → Option Files → StoreStop → Type 0
-AreLeft before texts now (Failed text) = AreStoredInto before texts text.name now × Contains texts text
+AreLeft before texts now (Failed text) = AreStoredInto before texts text.name now
 AreLeft before texts now NoMemory = AreStoredTo before texts now
 
 -- P holds where the folder failed

@@ -3,7 +3,7 @@
 ghost use Rattle.std.specs.Prelude.{◌≡◌, ◌∷◌, [], ◌++◌, ◌+◌, None, IfOk, OnOk, codes};
 ghost use Rattle.std.specs.Fmt.{decimal};
 ghost use Rattle.mesh_check.specs.Messages.{line, file_message};
-ghost use Rattle.run_steps.specs.Messages.{tetgen_name, point_text, ends_text, triangle_text, tetrahedron_text, two_tetrahedra_text, facet_text, part_text, at_most, limit_message, message_of};
+ghost use Rattle.run_steps.specs.Messages.{point_text, ends_text, triangle_text, tetrahedron_text, two_tetrahedra_text, facet_text, part_text, at_most, limit_message, message_of};
 ghost use Rattle.tangle_laws.specs.declared.anomaly.Anomaly.TheVariants.{Bare};
 ghost use Rattle.run_steps.specs.declared.status.LimitKind.TheVariants.{Bytes as TooLong, MeshPoints, Corners};
 ghost use Rattle.run_steps.specs.declared.status.Status.TheVariants.{NotFlat, SegmentsCross, Crossing, GridEnd, BudgetEnd, NoFill, Unsound};
@@ -19,37 +19,39 @@ use std::alloc::Global;
 use tangle_laws::Anomaly;
 use tet_ports::{Bytes, Name, NoMemory};
 
-/// The beginning of each line.
-pub(crate) const NAME: &[u8] = b"tetgen: ";
-
-/// The message for out of memory, whose report needs no memory.
-pub const OUT_OF_MEMORY: &[u8] = b"tetgen: out of memory\n";
-
-/// The message that the summary could not be written.
-pub const SUMMARY_FAILED: &[u8] = b"tetgen: summary: write failed\n";
-
-/// The line that reports a refusal, with points numbered by `by`.
-pub fn message(alloc: Global, by: &Option<Numbering>, status: &Status) -> Result<Bytes, NoMemory>
-    ensures { IfOk result (λ line. line ≡ message_of by.now status.now) }
+/// The line that reports a refusal, with points numbered by `by`. It begins with the program's
+/// name, a colon and a space, which are `program`.
+pub fn message(
+    alloc: Global,
+    program: &[u8],
+    by: &Option<Numbering>,
+    status: &Status,
+) -> Result<Bytes, NoMemory>
+    ensures { IfOk result (λ line. line ≡ message_of program.now by.now status.now) }
 {
     match status {
         Status::Done => Ok(Bytes::new(alloc)),
-        Status::Usage { word, place } => usage_message(alloc, NAME, *word, *place),
-        Status::Missing { name } => file_message(alloc, NAME, name, b"not found"),
-        Status::ReadFault { name } => file_message(alloc, NAME, name, b"read failed"),
-        Status::BadText { name, fault } => text_message(alloc, NAME, name, *fault),
-        Status::Limit { what } => limit_message(alloc, what),
-        Status::Flat => line(alloc, NAME, b"all points lie in one plane"),
-        Status::NotFlat { facet, four } => not_flat_message(alloc, by, *facet, *four),
-        Status::SegmentsCross { one, two } => segments_message(alloc, by, *one, *two),
-        Status::Crossing { one, two } => crossing_message(alloc, by, *one, *two),
-        Status::GridEnd { piece } => grid_message(alloc, by, *piece),
-        Status::BudgetEnd { made, piece } => budget_message(alloc, by, *made, *piece),
-        Status::NoFill { anomaly } => no_fill_message(alloc, by, *anomaly),
-        Status::Unsound { defect, first } => unsound_message(alloc, *defect, *first),
-        Status::NoMemory => line(alloc, NAME, b"out of memory"),
-        Status::WriteFault { name: None } => line(alloc, NAME, b"summary: write failed"),
-        Status::WriteFault { name: Some(name) } => file_message(alloc, NAME, name, b"write failed"),
+        Status::Usage { word, place } => usage_message(alloc, program, *word, *place),
+        Status::Missing { name } => file_message(alloc, program, name, b"not found"),
+        Status::ReadFault { name } => file_message(alloc, program, name, b"read failed"),
+        Status::BadText { name, fault } => text_message(alloc, program, name, *fault),
+        Status::Limit { what } => limit_message(alloc, program, what),
+        Status::Flat => line(alloc, program, b"all points lie in one plane"),
+        Status::NotFlat { facet, four } => not_flat_message(alloc, program, by, *facet, *four),
+        Status::SegmentsCross { one, two } => segments_message(alloc, program, by, *one, *two),
+        Status::Crossing { one, two } => crossing_message(alloc, program, by, *one, *two),
+        Status::GridEnd { piece } => grid_message(alloc, program, by, *piece),
+        Status::BudgetEnd { made, piece } => budget_message(alloc, program, by, *made, *piece),
+        Status::NoFill { anomaly } => no_fill_message(alloc, program, by, *anomaly),
+        Status::Unsound { defect, first } => unsound_message(alloc, program, *defect, *first),
+        Status::NoMemory => line(alloc, program, b"out of memory"),
+        Status::WriteFault { name: None } => line(alloc, program, b"summary: write failed"),
+        Status::WriteFault { name: Some(name) } => file_message(
+            alloc,
+            program,
+            name,
+            b"write failed",
+        ),
     }
 }
 
@@ -57,28 +59,44 @@ pub fn message(alloc: Global, by: &Option<Numbering>, status: &Status) -> Result
 type LineAnswer = Result<Bytes, NoMemory>;
 
 /// A message on an input that is over a limit.
-fn limit_message(alloc: Global, what: &LimitKind) -> LineAnswer
-    ensures { IfOk result (λ line. line ≡ limit_message what.now) }
+fn limit_message(alloc: Global, program: &[u8], what: &LimitKind) -> LineAnswer
+    ensures { IfOk result (λ line. line ≡ limit_message program.now what.now) }
 {
     match what {
-        LimitKind::Bytes { name, most } => bytes_message(alloc, name, *most),
-        LimitKind::Points { count, most } => count_message(alloc, *count, b" points", *most),
-        LimitKind::MeshPoints { count } => mesh_points_message(alloc, *count),
-        LimitKind::Facets { count, most } => count_message(alloc, *count, b" facets", *most),
-        LimitKind::Corners { line, count, most } => corners_message(alloc, *line, *count, *most),
-        LimitKind::Grid { line } => place_message(alloc, *line, b": coordinate off the grid"),
-        LimitKind::Weight { line } => place_message(alloc, *line, b": weight off the grid"),
+        LimitKind::Bytes { name, most } => bytes_message(alloc, program, name, *most),
+        LimitKind::Points { count, most } => count_message(
+            alloc, program, *count, b" points", *most,
+        ),
+        LimitKind::MeshPoints { count } => mesh_points_message(alloc, program, *count),
+        LimitKind::Facets { count, most } => count_message(
+            alloc, program, *count, b" facets", *most,
+        ),
+        LimitKind::Corners { line, count, most } => corners_message(
+            alloc, program, *line, *count, *most,
+        ),
+        LimitKind::Grid { line } => place_message(
+            alloc,
+            program,
+            *line,
+            b": coordinate off the grid",
+        ),
+        LimitKind::Weight { line } => place_message(
+            alloc,
+            program,
+            *line,
+            b": weight off the grid",
+        ),
     }
 }
 
 /// A line on a file that is too long.
-fn bytes_message(alloc: Global, name: &Name, most: usize) -> LineAnswer
-    ensures { IfOk result (λ line. line ≡ limit_message (TooLong name.now most)) }
+fn bytes_message(alloc: Global, program: &[u8], name: &Name, most: usize) -> LineAnswer
+    ensures { IfOk result (λ line. line ≡ limit_message program.now (TooLong name.now most)) }
 {
     let mut text = Bytes::from_slice(alloc, b"over ")?;
     append_number(&mut text, most)?;
     text.append(b" bytes")?;
-    file_message(alloc, NAME, name, text.as_slice())
+    file_message(alloc, program, name, text.as_slice())
 }
 
 /// Appends the greatest number that is allowed.
@@ -90,151 +108,202 @@ fn append_most(text: &mut Bytes, most: usize) -> Result<(), NoMemory>
 }
 
 /// A line on a count that is over its limit: the number, the noun and the limit.
-fn count_message(alloc: Global, count: u64, what: &[u8], most: usize) -> LineAnswer
+fn count_message(alloc: Global, program: &[u8], count: u64, what: &[u8], most: usize) -> LineAnswer
     ensures { IfOk result
-        (λ made. made ≡ line tetgen_name (decimal count ++ what.now ++ at_most most)) }
+        (λ made. made ≡ line program.now (decimal count ++ what.now ++ at_most most)) }
 {
     let mut text = Bytes::new(alloc);
     append_number(&mut text, count as usize)?;
     text.append(what)?;
     append_most(&mut text, most)?;
-    line(alloc, NAME, text.as_slice())
+    line(alloc, program, text.as_slice())
 }
 
-fn mesh_points_message(alloc: Global, count: u64) -> LineAnswer
-    ensures { IfOk result (λ made. made ≡ limit_message (MeshPoints count)) }
+fn mesh_points_message(alloc: Global, program: &[u8], count: u64) -> LineAnswer
+    ensures { IfOk result (λ made. made ≡ limit_message program.now (MeshPoints count)) }
 {
     let mut text = Bytes::new(alloc);
     append_number(&mut text, count as usize)?;
     text.append(b" points, at most 120000")?;
-    line(alloc, NAME, text.as_slice())
+    line(alloc, program, text.as_slice())
 }
 
-fn unsound_message(alloc: Global, defect: Defect, first: u32) -> LineAnswer
-    ensures { IfOk result (λ line. line ≡ message_of None (Unsound defect first)) }
+fn unsound_message(alloc: Global, program: &[u8], defect: Defect, first: u32) -> LineAnswer
+    ensures { IfOk result (λ line. line ≡ message_of program.now None (Unsound defect first)) }
 {
     let text = defect_text(alloc, first, defect)?;
-    line(alloc, NAME, text.as_slice())
+    line(alloc, program, text.as_slice())
 }
 
-fn corners_message(alloc: Global, place: usize, count: u64, most: usize) -> LineAnswer
-    ensures { IfOk result (λ line. line ≡ limit_message (Corners place count most)) }
+fn corners_message(
+    alloc: Global,
+    program: &[u8],
+    place: usize,
+    count: u64,
+    most: usize,
+) -> LineAnswer
+    ensures { IfOk result (λ line. line ≡ limit_message program.now (Corners place count most)) }
 {
     let mut text = Bytes::from_slice(alloc, b": ")?;
     append_number(&mut text, count as usize)?;
     text.append(b" corners")?;
     append_most(&mut text, most)?;
-    place_message(alloc, place, text.as_slice())
+    place_message(alloc, program, place, text.as_slice())
 }
 
 /// A message on a line of a file, with the text that follows the line's number.
-fn place_message(alloc: Global, place: usize, told: &[u8]) -> LineAnswer
+fn place_message(alloc: Global, program: &[u8], place: usize, told: &[u8]) -> LineAnswer
     ensures { IfOk result
-        (λ made. made ≡ line tetgen_name (codes "line " ++ decimal place ++ told.now)) }
+        (λ made. made ≡ line program.now (codes "line " ++ decimal place ++ told.now)) }
 {
     let mut text = Bytes::from_slice(alloc, b"line ")?;
     append_number(&mut text, place)?;
     text.append(told)?;
-    line(alloc, NAME, text.as_slice())
+    line(alloc, program, text.as_slice())
 }
 
-fn not_flat_message(alloc: Global, by: &Option<Numbering>, facet: u32, four: Tet) -> LineAnswer
-    ensures { IfOk result (λ line. line ≡ message_of by.now (NotFlat facet four)) }
+fn not_flat_message(
+    alloc: Global,
+    program: &[u8],
+    by: &Option<Numbering>,
+    facet: u32,
+    four: Tet,
+) -> LineAnswer
+    ensures { IfOk result (λ line. line ≡ message_of program.now by.now (NotFlat facet four)) }
 {
     let mut text = Bytes::from_slice(alloc, b"facet ")?;
     append_facet(&mut text, facet)?;
     text.append(b" is not flat: points")?;
     append_tetrahedron(&mut text, by, four)?;
-    line(alloc, NAME, text.as_slice())
+    line(alloc, program, text.as_slice())
 }
 
-fn segments_message(alloc: Global, by: &Option<Numbering>, one: Piece, two: Piece) -> LineAnswer
-    ensures { IfOk result (λ line. line ≡ message_of by.now (SegmentsCross one two)) }
+fn segments_message(
+    alloc: Global,
+    program: &[u8],
+    by: &Option<Numbering>,
+    one: Piece,
+    two: Piece,
+) -> LineAnswer
+    ensures { IfOk result (λ line. line ≡ message_of program.now by.now (SegmentsCross one two)) }
 {
     let mut text = Bytes::from_slice(alloc, b"segments")?;
     append_ends(&mut text, by, one)?;
     text.append(b" and")?;
-    piece_message(alloc, by, text, two, b" cross")
+    piece_message(alloc, program, by, text, two, b" cross")
 }
 
 /// A line with the two ends of a subsegment between two texts.
 fn piece_message(
     alloc: Global,
+    program: &[u8],
     by: &Option<Numbering>,
     mut text: Bytes,
     piece: Piece,
     told: &[u8],
 ) -> LineAnswer
     ensures { IfOk result
-        (λ made. made ≡ line tetgen_name (text ++ ends_text by.now piece ++ told.now)) }
+        (λ made. made ≡ line program.now (text ++ ends_text by.now piece ++ told.now)) }
 {
     append_ends(&mut text, by, piece)?;
     text.append(told)?;
-    line(alloc, NAME, text.as_slice())
+    line(alloc, program, text.as_slice())
 }
 
-fn crossing_message(alloc: Global, by: &Option<Numbering>, one: Part, two: Part) -> LineAnswer
-    ensures { IfOk result (λ line. line ≡ message_of by.now (Crossing one two)) }
+fn crossing_message(
+    alloc: Global,
+    program: &[u8],
+    by: &Option<Numbering>,
+    one: Part,
+    two: Part,
+) -> LineAnswer
+    ensures { IfOk result (λ line. line ≡ message_of program.now by.now (Crossing one two)) }
 {
     let mut text = Bytes::from_slice(alloc, b"crossing: ")?;
     text.append(part_text(alloc, by, one)?.as_slice())?;
     text.append(b" and ")?;
     text.append(part_text(alloc, by, two)?.as_slice())?;
-    line(alloc, NAME, text.as_slice())
+    line(alloc, program, text.as_slice())
 }
 
-fn grid_message(alloc: Global, by: &Option<Numbering>, piece: Piece) -> LineAnswer
-    ensures { IfOk result (λ line. line ≡ message_of by.now (GridEnd piece)) }
+fn grid_message(alloc: Global, program: &[u8], by: &Option<Numbering>, piece: Piece) -> LineAnswer
+    ensures { IfOk result (λ line. line ≡ message_of program.now by.now (GridEnd piece)) }
 {
     let text = Bytes::from_slice(alloc, b"segment")?;
-    piece_message(alloc, by, text, piece, b" needs a finer grid")
+    piece_message(alloc, program, by, text, piece, b" needs a finer grid")
 }
 
-fn budget_message(alloc: Global, by: &Option<Numbering>, made: u32, piece: Piece) -> LineAnswer
-    ensures { IfOk result (λ line. line ≡ message_of by.now (BudgetEnd made piece)) }
+fn budget_message(
+    alloc: Global,
+    program: &[u8],
+    by: &Option<Numbering>,
+    made: u32,
+    piece: Piece,
+) -> LineAnswer
+    ensures { IfOk result (λ line. line ≡ message_of program.now by.now (BudgetEnd made piece)) }
 {
     let mut text = Bytes::new(alloc);
     append_number(&mut text, made as usize)?;
     text.append(b" splits used, segment")?;
-    piece_message(alloc, by, text, piece, b" is missing")
+    piece_message(alloc, program, by, text, piece, b" is missing")
 }
 
-fn no_fill_message(alloc: Global, by: &Option<Numbering>, anomaly: Anomaly) -> LineAnswer
-    ensures { IfOk result (λ line. line ≡ message_of by.now (NoFill anomaly)) }
+fn no_fill_message(
+    alloc: Global,
+    program: &[u8],
+    by: &Option<Numbering>,
+    anomaly: Anomaly,
+) -> LineAnswer
+    ensures { IfOk result (λ line. line ≡ message_of program.now by.now (NoFill anomaly)) }
 {
     match anomaly {
-        Anomaly::Bare { face } => bare_message(alloc, by, face),
-        Anomaly::Doubled { one, two } => fillings_message(alloc, by, b"two fillings", one, two),
-        Anomaly::Bent { one, two } => fillings_message(alloc, by, b"bent fillings", one, two),
+        Anomaly::Bare { face } => bare_message(alloc, program, by, face),
+        Anomaly::Doubled { one, two } => fillings_message(
+            alloc,
+            program,
+            by,
+            b"two fillings",
+            one,
+            two,
+        ),
+        Anomaly::Bent { one, two } => fillings_message(
+            alloc,
+            program,
+            by,
+            b"bent fillings",
+            one,
+            two,
+        ),
     }
 }
 
-fn bare_message(alloc: Global, by: &Option<Numbering>, face: Face) -> LineAnswer
-    ensures { IfOk result (λ line. line ≡ message_of by.now (NoFill (Bare face))) }
+fn bare_message(alloc: Global, program: &[u8], by: &Option<Numbering>, face: Face) -> LineAnswer
+    ensures { IfOk result (λ line. line ≡ message_of program.now by.now (NoFill (Bare face))) }
 {
     let mut text = Bytes::from_slice(alloc, b"no filling at face")?;
     append_point(&mut text, by, face.a)?;
     append_point(&mut text, by, face.b)?;
     append_point(&mut text, by, face.c)?;
-    line(alloc, NAME, text.as_slice())
+    line(alloc, program, text.as_slice())
 }
 
 /// A line on two tetrahedra.
 fn fillings_message(
     alloc: Global,
+    program: &[u8],
     by: &Option<Numbering>,
     told: &[u8],
     one: Tet,
     two: Tet,
 ) -> LineAnswer
     ensures { IfOk result
-        (λ made. made ≡ line tetgen_name (told.now ++ two_tetrahedra_text by.now one two)) }
+        (λ made. made ≡ line program.now (told.now ++ two_tetrahedra_text by.now one two)) }
 {
     let mut text = Bytes::from_slice(alloc, told)?;
     append_tetrahedron(&mut text, by, one)?;
     text.append(b" and")?;
     append_tetrahedron(&mut text, by, two)?;
-    line(alloc, NAME, text.as_slice())
+    line(alloc, program, text.as_slice())
 }
 
 /// Appends the number of a facet, which counts from 1.

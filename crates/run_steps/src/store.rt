@@ -7,12 +7,11 @@ ghost use Rattle.run_steps.specs.Stores.{given, with_files, AreLeft, IfFailed};
 use std::alloc::Global;
 use tet_ports::{Bytes, Folder, Name, NoMemory, StoreFault};
 
-/// A text, the name of its file, and the message that the file could not be written.
+/// A text, and the name of its file.
 #[derive(Debug, Drop)]
 pub struct NamedText {
     pub name: Name,
     pub content: Bytes,
-    pub message: Bytes,
 }
 
 /// The texts of a mesh's files, each where it is asked for, in the order in which they are stored.

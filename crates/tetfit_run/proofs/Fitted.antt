@@ -1,7 +1,6 @@
 -- What a run makes of its words: its refusals, its mesh, and that it holds over all of a run.
 use Rattle.std.proofs.Common.{◌≡◌, inl, inr, ℕ, true, false, List, [], Option, Some, None, Result, Ok, Err, refl, sym, ◌∙◌, subst, ap}
 use Rattle.std.specs.Prelude.{Bool, IsTrue, All, IfOk, IfErr}
-use Rattle.std.proofs.lemmas.List.Elements.{All-nil}
 use Rattle.command_words.specs.declared.fault.WordsFault.{WordsFault}
 use Rattle.command_words.specs.declared.fault.WordsFault.TheVariants.{Usage as Misunderstood, NoMemory as WordsWanting}
 use Rattle.command_words.specs.declared.options.Options.{Options}
@@ -23,7 +22,6 @@ use Rattle.tetfit_run.specs.declared.request.Request.TheVariants.{Page, Version,
 use Rattle.run_steps.proofs.Steps.{and_then_refuses, and_then_wider}
 use Rattle.tet_ports.proofs.Windows.{IsWithin}
 use Rattle.tet_ports.specs.Seen.{FolderSeen, SinkSeen}
-use Rattle.run_steps.specs.Stores.{in_order, TellsFailure}
 use Rattle.run_steps.specs.declared.input.Input.{Input}
 use Rattle.run_steps.specs.declared.numbering.Numbering.{Numbering}
 use Rattle.run_steps.specs.declared.outputs.Outputs.{Outputs}
@@ -33,7 +31,7 @@ use Rattle.run_steps.specs.declared.status.Status.TheVariants.{Usage, Limit, Fla
 use Rattle.tet_ports.specs.declared.NoMemory.{NoMemory as MemoryLack}
 use Rattle.tetgen_run.proofs.Endings.{NumbersPoints, Refuses}
 use Rattle.tetgen_run.proofs.Refusals.{IsRefusal, IsSilent, not_true}
-use Rattle.tetgen_run.proofs.Runs.{bound_silent, mesh_by, meshed_refuses, outputs_told}
+use Rattle.tetgen_run.proofs.Runs.{bound_silent, mesh_by, meshed_refuses}
 use Rattle.tetgen_run.specs.Ends.{EndsWith, IsToldAs, StopsSo, answer_of}
 use Rattle.tetgen_run.specs.Stops.{stop_of_words}
 use Rattle.tetgen_run.specs.declared.stop.Stop.{Stop}
@@ -250,32 +248,6 @@ asked_by Mesh words folder outputs h = model_mesh (others words) folder outputs 
 
 pub fit_asked : (words : List (List ℕ)) (folder : FolderSeen) (outputs : Outputs) → OutputsOfFit words folder (Ok outputs) → IsAskedBy (request_of words) words folder outputs
 fit_asked words folder = asked_by (request_of words) words folder
-
--- ---- the texts
-
--- each text of the outputs in the end has its message
-final_told : (goal : Option Goal) (options : Options) (input : Input) (m n : ℕ) (made final : Outputs) → All TellsFailure (in_order made.texts) → IsFinalBy goal options input m made n final
-    → All TellsFailure (in_order final.texts)
-final_told None options input m n made final told h = subst (λ (o : Outputs). All TellsFailure (in_order o.texts)) (sym h.1) told
-final_told (Some goal) options input m n made final told h =
-    let refined = h.1.2.2 in
-    subst (λ (o : Outputs). All TellsFailure (in_order o.texts)) (sym refined.5.2) (outputs_told (at_decimals n options) refined.2 refined.5.0 refined.5.1)
-
-model_told : (words : List (List ℕ)) (folder : FolderSeen) (outputs : Outputs) → OutputsOfModel words folder (Ok outputs) → All TellsFailure (in_order outputs.texts)
-model_told words folder outputs h =
-    let f = h.2.2 in
-    let a = f.2.answer.2 in
-    let told = outputs_told (at_decimals f.0 (with_origin h.2.0 h.0.options)) a.0 f.1 a.2 in
-    subst (λ (o : Outputs). All TellsFailure (in_order o.texts)) (sym f.8) (final_told h.0.goal (with_origin h.2.0 h.0.options) h.2.0 f.0 f.3 f.1 f.4 told f.5)
-
-told_by : (request : Request) (words : List (List ℕ)) (folder : FolderSeen) (outputs : Outputs) → MadeBy request words folder (Ok outputs) → All TellsFailure (in_order outputs.texts)
-told_by Page words folder outputs h = subst (λ (o : Outputs). All TellsFailure (in_order o.texts)) (sym h) (All-nil TellsFailure)
-told_by Version words folder outputs h = subst (λ (o : Outputs). All TellsFailure (in_order o.texts)) (sym h) (All-nil TellsFailure)
-told_by Mesh words folder outputs h = model_told (others words) folder outputs h
-
--- each text has its message
-pub fit_told : (words : List (List ℕ)) (folder : FolderSeen) (outputs : Outputs) → OutputsOfFit words folder (Ok outputs) → All TellsFailure (in_order outputs.texts)
-fit_told words folder = told_by (request_of words) words folder
 
 -- ---- over all of a run
 

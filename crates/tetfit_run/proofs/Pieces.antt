@@ -1,43 +1,22 @@
--- Two pieces that are put one after the other.
-use Rattle.std.proofs.Common.{◌≡◌, ◌≤◌, inl, inr, ℕ, Bool, true, false, List, [], ◌++◌, ◌+◌, length, Option, Some, None, Result, Ok, Err, refl, sym, ap, ◌∙◌, subst, arith}
-use Rattle.std.specs.Prelude.{take, drop}
-use Rattle.std.proofs.Math.Seq.{take-append_seam, take-append-add}
-use Rattle.std.proofs.lemmas.List.{append-nil, append_assoc, take-append-drop}
-use Rattle.tet_ports.specs.Counts.{Rose}
-use Rattle.tet_ports.specs.declared.sink.PutFault.{PutFault}
-use Rattle.tet_ports.specs.declared.sink.PutFault.TheVariants.{Failed, NoMemory as PutNoMemory}
-use Rattle.tet_ports.specs.Written.{PartlyPut, with_written}
+-- The stages of a run, which are put one after the other, and its message.
+use Rattle.std.proofs.Common.{◌≡◌, inl, inr, ℕ, Bool, true, false, List, [], ◌++◌, Option, Result, Ok, Err, refl, sym, ◌∙◌, subst}
+use Rattle.std.proofs.lemmas.List.{append-nil}
 use Rattle.run_steps.specs.declared.numbering.Numbering.{Numbering}
 use Rattle.run_steps.specs.declared.status.Status.{Status}
 use Rattle.run_steps.specs.declared.outputs.Outputs.{Outputs}
 use Rattle.run_steps.specs.declared.status.Status.TheVariants.{Done, NoMemory, WriteFault}
-use Rattle.tet_ports.specs.Seen.{IsMessagePut, FolderSeen, SinkSeen, SinkState, sink_seen}
+use Rattle.tet_ports.specs.Seen.{FolderSeen, SinkSeen, SinkState}
 use Rattle.tetgen_run.proofs.Refusals.{IsRefusal}
 use Rattle.tetgen_run.specs.Ends.{FinishesSo, IsToldAs, StopsSo, answer_of}
 use Rattle.tetgen_run.specs.declared.stop.Stop.{Stop}
 use Rattle.tetgen_run.specs.declared.stop.Stop.TheVariants.{Refused, Unwritten, Unsummed, NoMemory as Wanting}
 use Rattle.refining.specs.declared.watch.Round.{Round}
-use Rattle.tetfit_run.specs.Said.{nothing_put, partly_first, partly_second, piece_append, rose_later, said_both}
+use Rattle.tetfit_run.specs.Said.{said_both}
 use Rattle.tetfit_run.specs.Stages.{AreStagesPut, IsMadeAt, IsSaid, rounds_text, stage_text}
 
 -- a line with no hint and no help behind it
 pub nothing_behind : (line : List ℕ) → line ++ [] ++ [] ≡ line
 nothing_behind line = append-nil (line ++ []) ∙ append-nil line
-
--- a sink that took the first piece whole, and then the second so
-pub put_after : (front back : List ℕ) (before mid now : Option (List ℕ)) (fb fm fn wb wm wn : ℕ) → mid ≡ with_written before front → fb ≤ fm → wb ≤ wm
-    → IsMessagePut back (record { written_before = mid; written_now = now; faults_before = fm; faults_now = fn; wants_before = wm; wants_now = wn })
-    → IsMessagePut (front ++ back) (record { written_before = before; written_now = now; faults_before = fb; faults_now = fn; wants_before = wb; wants_now = wn })
-put_after front back before mid now fb fm fn wb wm wn e f w (inl h) = inl (h ∙ ap (λ s. with_written s back) e ∙ piece_append before front back)
-put_after front back before mid now fb fm fn wb wm wn e f w (inr (p, inl r)) = inr (partly_second before now front back (subst (λ s. PartlyPut s back now) e p), inl (rose_later fm fn fb f r))
-put_after front back before mid now fb fm fn wb wm wn e f w (inr (p, inr r)) = inr (partly_second before now front back (subst (λ s. PartlyPut s back now) e p), inr (rose_later wm wn wb w r))
-
--- a sink that refused the first piece
-pub put_front : {T : Type 0} (front back : List ℕ) (before now : Option (List ℕ)) (fb fn wb wn : ℕ) (fault : PutFault) (r : Result T PutFault) → r ≡ Err fault
-    → (r ≡ Err Failed → Rose fb fn) → (r ≡ Err Failed → PartlyPut before front now) → (r ≡ Err PutNoMemory → Rose wb wn) → (r ≡ Err PutNoMemory → now ≡ before)
-    → IsMessagePut (front ++ back) (record { written_before = before; written_now = now; faults_before = fb; faults_now = fn; wants_before = wb; wants_now = wn })
-put_front front back before now fb fn wb wn Failed r e failed partly wanting kept = inr (partly_first before now front back (partly e), inl (failed e))
-put_front front back before now fb fn wb wn PutNoMemory r e failed partly wanting kept = inr ((0, kept e ∙ sym (nothing_put before)), inr (wanting e))
 
 -- ---- stages
 

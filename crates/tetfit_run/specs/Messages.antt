@@ -1,5 +1,5 @@
 -- The lines that report each refusal.
-use Rattle.std.specs.Prelude.{ℕ, Bool, true, false, List, [], ◌++◌, nat_lt, drop, codes, Option, if◌then◌else◌}
+use Rattle.std.specs.Prelude.{ℕ, Bool, true, false, List, [], ◌++◌, nat_lt, codes, Option, if◌then◌else◌}
 use Rattle.tetfit_run.specs.Texts.{refused_line}
 use Rattle.run_steps.specs.Messages.{message_of}
 use Rattle.run_steps.specs.declared.numbering.Numbering.{Numbering}
@@ -8,9 +8,9 @@ use Rattle.run_steps.specs.declared.status.LimitKind.TheVariants.{Corners, Grid}
 use Rattle.run_steps.specs.declared.status.Status.{Status}
 use Rattle.run_steps.specs.declared.status.Status.TheVariants.{Usage, Missing, Limit, Flat, NotFlat, SegmentsCross, Crossing, GridEnd, BudgetEnd, NoFill}
 
--- a line of `tetgen` with the name of `tetfit` in place of its own
-abbrev pub renamed_program : List ℕ → List ℕ
-renamed_program line = codes "tetfit: " ++ drop 8 line
+-- the beginning of each line
+abbrev pub tetfit_name : List ℕ
+tetfit_name = codes "tetfit: "
 
 -- what would help where a limit is passed
 abbrev pub help_of_limit : LimitKind → List ℕ
@@ -41,7 +41,7 @@ help_of status = []
 abbrev pub line_of : List (List ℕ) → Option Numbering → Status → List ℕ
 line_of words by (Usage word place) = refused_line words word place
 line_of words by (Limit (Grid line)) = []
-line_of words by status = renamed_program (message_of by status)
+line_of words by status = message_of tetfit_name by status
 
 -- lines on the model follow: on a segment, on crossing parts, on a point off the grid, or on rounded coordinates
 abbrev pub has_hint : Status → Bool

@@ -1,39 +1,11 @@
 -- What is put in two steps is put in both: the laws of `IsSaid`.
-use Rattle.std.proofs.Common.{◌≡◌, ◌≤◌, inl, inr, ℕ, Bool, true, false, List, [], ◌∷◌, ◌++◌, ◌+◌, length, Option, Some, None, refl, sym, ap, ◌∙◌, subst, arith}
-use Rattle.std.specs.Prelude.{take, drop}
-use Rattle.std.proofs.Math.Seq.{take-append_seam, take-append-add}
-use Rattle.std.proofs.lemmas.List.{append-nil, append_assoc, take-append-drop}
-use Rattle.tet_ports.specs.Counts.{Rose}
+use Rattle.std.proofs.Common.{◌≡◌, ◌≤◌, inl, inr, ℕ, Bool, true, false, List, [], ◌∷◌, ◌++◌, refl, sym, ap, ◌∙◌, subst, arith}
+use Rattle.std.proofs.lemmas.List.{append_assoc}
 use Rattle.tet_ports.specs.Written.{PartlyPut, with_written}
-use Rattle.tet_ports.specs.Seen.{IsMessagePut, SinkSeen, SinkState, sink_seen}
+use Rattle.tet_ports.specs.Seen.{IsMessagePut, SinkSeen, SinkState}
+use Rattle.run_steps.proofs.Pieces.{nothing_put, partly_first, partly_second, piece_append, rose_later}
 use Rattle.tetfit_run.specs.Stages.{IsCut, IsSaid, between, round_text, rounds_text, stage_text}
 use Rattle.refining.specs.declared.watch.Round.{Round}
-
-pub piece_append : (w : Option (List ℕ)) (a b : List ℕ) → with_written (with_written w a) b ≡ with_written w (a ++ b)
-piece_append None a b = refl
-piece_append (Some w) a b = ap Some (append_assoc w a b)
-
--- nothing is appended
-pub nothing_put : (w : Option (List ℕ)) → with_written w [] ≡ w
-nothing_put None = refl
-nothing_put (Some w) = ap Some (append-nil w)
-
-prefix_of : (k : ℕ) (a b : List ℕ) → take (length (take k a)) (a ++ b) ≡ take k a
-prefix_of k a b =
-    let p = take k a in
-    ap (λ l. take (length p) (l ++ b)) (sym (take-append-drop k a)) ∙ ap (take (length p)) (append_assoc p (drop k a) b)
-    ∙ take-append_seam p (drop k a ++ b)
-
--- a prefix of the first is one of both
-pub partly_first : (w now : Option (List ℕ)) (a b : List ℕ) → PartlyPut w a now → PartlyPut w (a ++ b) now
-partly_first w now a b h = (length (take h.0 a), h.1 ∙ ap (with_written w) (sym (prefix_of h.0 a b)))
-
--- the first whole and a prefix of the second are a prefix of both
-pub partly_second : (w now : Option (List ℕ)) (a b : List ℕ) → PartlyPut (with_written w a) b now → PartlyPut w (a ++ b) now
-partly_second w now a b h = (length a + h.0, h.1 ∙ piece_append w a (take h.0 b) ∙ ap (with_written w) (sym (take-append-add a b h.0)))
-
-pub rose_later : (a b c : ℕ) → c ≤ a → Rose a b → Rose c b
-rose_later a b c h r = omega arith
 
 first_cut : (a b : List ℕ) (err : SinkSeen) → IsCut a err → IsCut (a ++ b) err
 first_cut a b err h = (partly_first err.written_before err.written_now a b h.0, h.1)

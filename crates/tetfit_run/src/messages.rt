@@ -1,16 +1,16 @@
 //! The lines in which `tetfit` reports each refusal.
 
-ghost use Rattle.std.specs.Prelude.{◌≡◌, ◌++◌, IfOk, OnOk, drop};
-ghost use Rattle.tet_ports.specs.Seen.{IsMessagePut, sink_seen};
+ghost use Rattle.std.specs.Prelude.{◌≡◌, ◌++◌, IfOk, OnOk};
+ghost use Rattle.tet_ports.specs.Seen.{sink_seen};
 ghost use Rattle.tetfit_run.specs.Words.{others};
-ghost use Rattle.tetgen_run.specs.Ends.{IsTellable, IsToldAs};
+ghost use Rattle.tetgen_run.specs.Ends.{IsToldAs};
 ghost use Rattle.tetfit_run.specs.Messages.{fit_message, has_hint, help_of, help_of_budget, help_of_limit, hint_in};
-ghost use Rattle.tetfit_run.specs.Messages.{line_of, renamed_program};
+ghost use Rattle.tetfit_run.specs.Messages.{line_of};
 
 use crate::request::other_words;
 use crate::told::refused_line;
 use mesh_check::put_message;
-use run_steps::{LimitKind, Numbering, Status, message};
+use run_steps::{LimitKind, Numbering, Status, message, put_unwritten};
 use std::alloc::Global;
 use tet_ports::{Bytes, NoMemory, Sink, Words};
 use tetgen_run::Stop;
@@ -78,22 +78,6 @@ fn help_of(status: &Status) -> &'static [u8]
     }
 }
 
-/// The line without its first 8 bytes, `tetgen: `.
-fn behind_name(line: &[u8]) -> &[u8]
-    ensures { result.now ≡ drop 8 line.now }
-{
-    if line.len() < 8 { b"" } else { &line[8..] }
-}
-
-/// A line of `tetgen` with the name of `tetfit` in place of its own.
-fn renamed(alloc: Global, line: &[u8]) -> Result<Bytes, NoMemory>
-    ensures { IfOk result (λ made. made ≡ renamed_program line.now) }
-{
-    let mut made = Bytes::from_slice(alloc, NAME)?;
-    made.append(behind_name(line))?;
-    Ok(made)
-}
-
 /// The line of a refusal, from all words of the command, `-V` included. A point off the grid is
 /// reported in the lines that follow, with its coordinates.
 fn line_of(
@@ -112,10 +96,7 @@ fn line_of(
         Status::Limit {
             what: LimitKind::Grid { line: _ },
         } => Ok(Bytes::new(alloc)),
-        _ => {
-            let line = message(alloc, by, status)?;
-            renamed(alloc, line.as_slice())
-        }
+        _ => message(alloc, NAME, by, status),
     }
 }
 
@@ -165,18 +146,6 @@ fn fit_message(
     Ok(line)
 }
 
-/// Writes a line of `tetgen` with the name of `tetfit`, where memory may be short; a failure
-/// changes nothing.
-fn put_renamed<E: Sink>(line: &[u8], err: &mut E)
-    ensures { IsMessagePut (renamed_program line.now)
-        (sink_seen E.state err.old err.new) }
-{
-    match err.put(NAME) {
-        Ok(()) => put_message(behind_name(line), err),
-        Err(_) => {}
-    }
-}
-
 /// Writes the message of a stop, with the lines on the model, and answers its status; out of memory
 /// where there is no memory for the message.
 pub(crate) fn tell<E: Sink>(
@@ -186,7 +155,6 @@ pub(crate) fn tell<E: Sink>(
     stop: Stop,
     err: &mut E,
 ) -> Status
-    requires { IsTellable stop }
     ensures { IsToldAs (fit_message (others words.now) hint.now) stop
         (sink_seen E.state err.old err.new) result }
 {
@@ -200,7 +168,7 @@ pub(crate) fn tell<E: Sink>(
                 }
             }
         }
-        Stop::Unwritten(text) => put_renamed(text.message.as_slice(), err),
+        Stop::Unwritten(text) => put_unwritten(NAME, &text.name, err),
         Stop::Unsummed => put_message(SUMMARY_FAILED, err),
         Stop::NoMemory => put_message(OUT_OF_MEMORY, err),
     }

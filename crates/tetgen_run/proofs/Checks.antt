@@ -9,15 +9,14 @@ use Rattle.command_words.specs.Grammar.{words_fault}
 use Rattle.command_words.specs.Meaning.{options_of}
 use Rattle.command_words.specs.declared.options.Options.{Options}
 use Rattle.node_files.specs.declared.limits.Limits.{Limits}
-use Rattle.run_steps.specs.Messages.{message_of}
 use Rattle.tet_ports.specs.Seen.{IsMessagePut, FolderSeen, SinkSeen}
 use Rattle.run_steps.specs.declared.numbering.Numbering.{Numbering}
 use Rattle.run_steps.specs.declared.status.Status.{Status}
 use Rattle.run_steps.specs.declared.status.Status.TheVariants.{Done, Usage, NoMemory, WriteFault}
 use Rattle.tet_ports.specs.Counts.{Rose}
 use Rattle.tet_ports.specs.Files.{Files}
-use Rattle.tetgen_run.specs.Ends.{HasNoFault, IsEarly, IsSummed, IsTellable, IsUnchanged, answer_of, numbering_in}
-use Rattle.tetgen_run.specs.Run.{Checked, IsCheckAnswer, IsLeftByCheck, IsNumbering, IsToldWithin, sound_summary, status_of_check}
+use Rattle.tetgen_run.specs.Ends.{HasNoFault, IsEarly, IsSummed, IsUnchanged, answer_of, numbering_in}
+use Rattle.tetgen_run.specs.Run.{Checked, IsCheckAnswer, IsLeftByCheck, IsNumbering, IsToldWithin, sound_summary, status_of_check, tetgen_message}
 use Rattle.tetgen_run.specs.Steps.{ChecksSo, EndsByCheck}
 use Rattle.tetgen_run.specs.Stops.{stop_of_check}
 use Rattle.tetgen_run.specs.declared.stop.Stop.{Stop}
@@ -205,15 +204,9 @@ early_check words folder out Wanting h e = absurd e
 -- ---- what is told
 
 pub check_told : (limits : Limits) (words : List (List ℕ)) (folder : FolderSeen) (out err : SinkSeen) (stop : Stop) → EndsByCheck words folder out (Err stop)
-    → IsMessagePut (message_of (numbering_in stop) (answer_of (Err stop))) err → IsToldWithin limits words folder err (answer_of (Err stop))
+    → IsMessagePut (tetgen_message (numbering_in stop) (answer_of (Err stop))) err → IsToldWithin limits words folder err (answer_of (Err stop))
 check_told limits words folder out err (Refused s by) h p =
-    refusal_told message_of (IsNumbering limits words folder) err s by (not_done s (refused_refuses words folder out s by h)) (λ t. absurd (not_true (subst IsTrue (refused_silent words folder out s by h) t))) p
+    refusal_told tetgen_message (IsNumbering limits words folder) err s by (not_done s (refused_refuses words folder out s by h)) (λ t. absurd (not_true (subst IsTrue (refused_silent words folder out s by h) t))) p
 check_told limits words folder out err (Unwritten text) h p = absurd h.1
 check_told limits words folder out err Unsummed h p = (None, (λ t. absurd (not_true t)), p)
 check_told limits words folder out err Wanting h p = (None, (λ t. absurd (not_true t)), p)
-
-pub check_tellable : (words : List (List ℕ)) (folder : FolderSeen) (out : SinkSeen) (stop : Stop) → EndsByCheck words folder out (Err stop) → IsTellable stop
-check_tellable words folder out (Refused s by) h = tt
-check_tellable words folder out (Unwritten text) h = absurd h.1
-check_tellable words folder out Unsummed h = tt
-check_tellable words folder out Wanting h = tt

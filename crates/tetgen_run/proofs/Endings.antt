@@ -1,12 +1,11 @@
 -- What a run answers, leaves and tells whose steps make outputs and store them, put together.
 use Rattle.std.proofs.Common.{◌≡◌, ◌≤◌, inl, inr, ℕ, false, List, [], Option, Some, None, Result, Ok, Err, refl, sym, subst, ◌∙◌, arith}
-use Rattle.std.specs.Prelude.{◌≢◌, All}
-use Rattle.std.proofs.lemmas.List.Elements.{All-contains}
+use Rattle.std.specs.Prelude.{◌≢◌}
 use Rattle.std.proofs.lemmas.List.{append-nil}
 use Rattle.tet_ports.specs.Counts.{Rose}
 use Rattle.tet_ports.specs.Seen.{IsMessagePut, FolderSeen, SinkSeen}
 use Rattle.run_steps.specs.Reports.{text_in}
-use Rattle.run_steps.specs.Stores.{in_order, with_files, AreLeft, IfFailed, TellsFailure}
+use Rattle.run_steps.specs.Stores.{in_order, with_files, AreLeft, IfFailed}
 use Rattle.run_steps.specs.declared.numbering.Numbering.{Numbering}
 use Rattle.run_steps.specs.declared.outputs.Outputs.{Outputs}
 use Rattle.run_steps.specs.declared.status.Status.{Status}
@@ -15,7 +14,7 @@ use Rattle.run_steps.specs.declared.store.StoreStop.{StoreStop}
 use Rattle.run_steps.specs.declared.store.StoreStop.TheVariants.{Failed, NoMemory as StoreWanting}
 use Rattle.run_steps.specs.Steps.{forced_answer}
 use Rattle.run_steps.proofs.Steps.{IsDecided, IsSame, status_of}
-use Rattle.tetgen_run.specs.Ends.{AnswersBy, EndsWith, FinishesSo, HasNoFault, IsEarly, IsSummed, IsTellable, IsToldAs, IsUnchanged, LeavesBy, TellsBy, answer_of, names_points, numbering_in}
+use Rattle.tetgen_run.specs.Ends.{AnswersBy, EndsWith, FinishesSo, HasNoFault, IsEarly, IsSummed, IsToldAs, IsUnchanged, LeavesBy, TellsBy, answer_of, names_points, numbering_in}
 use Rattle.tetgen_run.specs.Stops.{stop_of_store}
 use Rattle.tetgen_run.specs.declared.stop.Stop.{Stop}
 use Rattle.tetgen_run.specs.declared.stop.Stop.TheVariants.{Refused, Unwritten, Unsummed, NoMemory as Wanting}
@@ -119,14 +118,6 @@ pub stop_tells : (message : Option Numbering → Status → List ℕ) (Made : Re
 stop_tells message Made Numbered refuses silent folder out err stop s h (inl t) = subst (TellsBy message Numbered err) (sym t.0) (end_tells message Made Numbered refuses silent folder out err stop h t.1)
 stop_tells message Made Numbered refuses silent folder out err stop s h (inr t) = subst (TellsBy message Numbered err) (sym t.0) (None, silent NoMemory None refl, t.2)
 
--- the text at which a store failed has its message
-pub stop_tellable : (Made : Result Outputs Status → Type 0) (Numbered : Status → Option Numbering → Type 0) (folder : FolderSeen) (out : SinkSeen) (stop : Stop)
-    → EndsWith Made Numbered folder out (Err stop) → IsTellable stop
-stop_tellable Made Numbered folder out (Refused status by) h = tt
-stop_tellable Made Numbered folder out (Unwritten text) h = h.5
-stop_tellable Made Numbered folder out Unsummed h = tt
-stop_tellable Made Numbered folder out Wanting h = tt
-
 -- ---- the stores and the summary
 
 -- the count of faults rose from an earlier value too
@@ -137,7 +128,7 @@ failed_wider StoreWanting earlier before now h r = tt
 -- where a store is refused
 pub store_finishes : (outputs : Outputs) (folder : FolderSeen) (out : SinkSeen) (stop : StoreStop) → AreLeft folder.files_before (in_order outputs.texts) folder.files_now stop
     → IfFailed stop (Rose folder.write_faults_before folder.write_faults_now) → out.written_now ≡ out.written_before → FinishesSo outputs folder out (Err (stop_of_store stop))
-store_finishes outputs folder out (Failed text) left rose w = (left.0, w, rose, left.1)
+store_finishes outputs folder out (Failed text) left rose w = (left, w, rose)
 store_finishes outputs folder out StoreWanting left rose w = (w, left)
 
 -- where all is stored
@@ -151,11 +142,11 @@ summed_finishes outputs folder out (Err (Unwritten text)) f s = absurd s
 
 -- the end of the stores is that of the run, where they began with the files as they were
 pub finish_ends : (Made : Result Outputs Status → Type 0) (Numbered : Status → Option Numbering → Type 0) (outputs : Outputs) (part folder : FolderSeen) (out : SinkSeen) (result : Result (Unit {0}) Stop)
-    → Made (Ok outputs) → All TellsFailure (in_order outputs.texts) → part.files_before ≡ folder.files_before → part.files_now ≡ folder.files_now → folder.write_faults_before ≤ part.write_faults_before
+    → Made (Ok outputs) → part.files_before ≡ folder.files_before → part.files_now ≡ folder.files_now → folder.write_faults_before ≤ part.write_faults_before
     → part.write_faults_now ≡ folder.write_faults_now → FinishesSo outputs part out result → EndsWith Made Numbered folder out result
-finish_ends Made Numbered outputs part folder out (Ok done) ran told b n e f h = (outputs, ran, rw (sym b, sym n) h.0, h.1)
-finish_ends Made Numbered outputs part folder out (Err Unsummed) ran told b n e f h = (outputs, ran, rw (sym b, sym n) h.0, h.1, h.2)
-finish_ends Made Numbered outputs part folder out (Err Wanting) ran told b n e f h = (h.0, inr (outputs, ran, rw (sym b, sym n) h.1))
-finish_ends Made Numbered outputs part folder out (Err (Refused status by)) ran told b n e f h = absurd h
-finish_ends Made Numbered outputs part folder out (Err (Unwritten text)) ran told b n e f h =
-    (outputs, ran, rw (sym b, sym n) h.0, h.1, rw (sym f) (omega arith), All-contains TellsFailure (in_order outputs.texts) text told h.3)
+finish_ends Made Numbered outputs part folder out (Ok done) ran b n e f h = (outputs, ran, rw (sym b, sym n) h.0, h.1)
+finish_ends Made Numbered outputs part folder out (Err Unsummed) ran b n e f h = (outputs, ran, rw (sym b, sym n) h.0, h.1, h.2)
+finish_ends Made Numbered outputs part folder out (Err Wanting) ran b n e f h = (h.0, inr (outputs, ran, rw (sym b, sym n) h.1))
+finish_ends Made Numbered outputs part folder out (Err (Refused status by)) ran b n e f h = absurd h
+finish_ends Made Numbered outputs part folder out (Err (Unwritten text)) ran b n e f h =
+    (outputs, ran, rw (sym b, sym n) h.0, h.1, rw (sym f) (omega arith))

@@ -1,7 +1,6 @@
 -- What a run leaves, answers and tells, put together.
 use Rattle.std.proofs.Common.{◌≡◌, ◌≤◌, inl, inr, ℕ, Bool, true, false, List, [], ◌∷◌, ◌++◌, Option, Some, None, Result, Ok, Err, if◌then◌else◌, refl, sym, subst, ap, ◌∙◌}
-use Rattle.std.specs.Prelude.{◌≢◌, IsTrue, All, codes, not, ◌||◌, ◌&&◌}
-use Rattle.std.proofs.lemmas.List.Elements.{All-nil, All-cons, All-append}
+use Rattle.std.specs.Prelude.{◌≢◌, IsTrue, not, ◌&&◌}
 use Rattle.command_words.specs.Grammar.{words_fault}
 use Rattle.command_words.specs.Meaning.{options_of}
 use Rattle.command_words.specs.Names.{file_name}
@@ -19,20 +18,16 @@ use Rattle.node_files.specs.declared.limits.Limits.{Limits}
 use Rattle.path_laws.specs.Flood.{carving_of}
 use Rattle.tet_ports.specs.Files.{Files}
 use Rattle.run_steps.specs.Codes.{status_of_fault, status_of_weights}
-use Rattle.run_steps.specs.Messages.{message_of}
 use Rattle.run_steps.specs.Numbering.{numbering_of}
 use Rattle.run_steps.specs.Meshing.{OutputsOfRun, BoundAnswer, IsUnbound, PointsMeshOf, MeshOf, MeshAnswer, IsFlatRefusal, OutputsAnswer, MeshedAnswer}
-use Rattle.run_steps.specs.Outputs.{named, AreOutputsOf}
 use Rattle.run_steps.specs.Reading.{WordsAnswer, InputOf, InputAnswer, IsUsage}
-use Rattle.tetgen_run.specs.Run.{asks_check, AnswerBy, IsMeshAnswer, IsAnswerWithin, IsCompleteWithin, LeftBy, IsLeftByMesh, IsLeftWithin, IsRegularMesh, IsMeshBy, IsMeshOfRunWithin, IsToldWithin, IsNumbering}
-use Rattle.tetgen_run.specs.Ends.{HasNoFault, IsUnchanged, IsToldAs, IsEarly, IsTellable, FinishesSo, answer_of, numbering_in}
+use Rattle.tetgen_run.specs.Run.{asks_check, AnswerBy, IsMeshAnswer, IsAnswerWithin, IsCompleteWithin, LeftBy, IsLeftByMesh, IsLeftWithin, IsRegularMesh, IsMeshBy, IsMeshOfRunWithin, IsToldWithin, IsNumbering, tetgen_message}
+use Rattle.tetgen_run.specs.Ends.{HasNoFault, IsUnchanged, IsToldAs, IsEarly, FinishesSo, answer_of, numbering_in}
 use Rattle.tetgen_run.specs.Steps.{ChecksSo, EndsByMesh, EndsBy, EndsSo}
 use Rattle.tet_ports.specs.Seen.{IsMessagePut, FolderSeen, SinkSeen}
 use Rattle.tetgen_run.specs.Stops.{stop_of_words}
-use Rattle.run_steps.specs.Stores.{given, in_order, TellsFailure}
 use Rattle.command_words.specs.declared.fault.WordsFault.{WordsFault}
 use Rattle.command_words.specs.declared.fault.WordsFault.TheVariants.{Usage as Misunderstood, NoMemory as WordsWanting}
-use Rattle.run_steps.specs.declared.store.NamedText.{NamedText}
 use Rattle.run_steps.specs.Steps.{AndThen, forced_answer}
 use Rattle.run_steps.specs.declared.input.Input.{Input}
 use Rattle.run_steps.specs.declared.mesh.Bound.{Bound}
@@ -52,8 +47,8 @@ use Rattle.run_steps.proofs.Refusals.{input_has}
 use Rattle.run_steps.proofs.Steps.{and_then_refuses}
 use Rattle.tetgen_run.proofs.Determined.{mesh_determined}
 use Rattle.tetgen_run.proofs.Refusals.{IsRefusal, IsSilent, not_true}
-use Rattle.tetgen_run.proofs.Endings.{NumbersPoints, answers_same, end_answers, end_leaves, early_leaves, end_tells, stop_tellable, finish_ends}
-use Rattle.tetgen_run.proofs.Checks.{check_answer, check_same, check_left, early_check, check_told, check_tellable, checked_end}
+use Rattle.tetgen_run.proofs.Endings.{NumbersPoints, answers_same, end_answers, end_leaves, early_leaves, end_tells, finish_ends}
+use Rattle.tetgen_run.proofs.Checks.{check_answer, check_same, check_left, early_check, check_told, checked_end}
 
 -- ---- refusals
 
@@ -238,7 +233,7 @@ want_answer limits false words folder out = tt
 want_answer limits true words folder out = tt
 
 -- the answer after a stop has its cause, leaves what it may, and has its message
-pub stop_answer : (limits : Limits) (words : List (List ℕ)) (folder : FolderSeen) (out err : SinkSeen) (stop : Stop) (s : Status) → EndsSo limits words folder out (Err stop) → IsToldAs message_of stop err s → IsAnswerWithin limits words folder out s
+pub stop_answer : (limits : Limits) (words : List (List ℕ)) (folder : FolderSeen) (out err : SinkSeen) (stop : Stop) (s : Status) → EndsSo limits words folder out (Err stop) → IsToldAs tetgen_message stop err s → IsAnswerWithin limits words folder out s
 stop_answer limits words folder out err stop s h (inl t) = subst (IsAnswerWithin limits words folder out) (sym t.0) (end_answer limits words folder out (Err stop) h)
 stop_answer limits words folder out err stop s h (inr t) = subst (IsAnswerWithin limits words folder out) (sym t.0) (want_answer limits (asks_check words) words folder out)
 
@@ -252,37 +247,26 @@ early_by limits true = early_check
 early_left : (limits : Limits) (words : List (List ℕ)) (folder : FolderSeen) (out : SinkSeen) (stop : Stop) → EndsSo limits words folder out (Err stop) → IsEarly stop → IsLeftWithin limits words folder out NoMemory
 early_left limits words = early_by limits (asks_check words) words
 
-pub stop_left : (limits : Limits) (words : List (List ℕ)) (folder : FolderSeen) (out err : SinkSeen) (stop : Stop) (s : Status) → EndsSo limits words folder out (Err stop) → IsToldAs message_of stop err s → IsLeftWithin limits words folder out s
+pub stop_left : (limits : Limits) (words : List (List ℕ)) (folder : FolderSeen) (out err : SinkSeen) (stop : Stop) (s : Status) → EndsSo limits words folder out (Err stop) → IsToldAs tetgen_message stop err s → IsLeftWithin limits words folder out s
 stop_left limits words folder out err stop s h (inl t) = subst (IsLeftWithin limits words folder out) (sym t.0) (end_left limits words folder out (Err stop) h)
 stop_left limits words folder out err stop s h (inr t) = subst (IsLeftWithin limits words folder out) (sym t.0) (early_left limits words folder out stop h t.1)
 
 mesh_told : (limits : Limits) (words : List (List ℕ)) (folder : FolderSeen) (out err : SinkSeen) (stop : Stop) → EndsByMesh limits words folder out (Err stop)
-    → IsMessagePut (message_of (numbering_in stop) (answer_of (Err stop))) err → IsToldWithin limits words folder err (answer_of (Err stop))
-mesh_told limits words folder = end_tells message_of (OutputsOfRun limits words folder) (IsNumbering limits words folder) (run_refuses limits words folder) (numbers_points limits words folder) folder
+    → IsMessagePut (tetgen_message (numbering_in stop) (answer_of (Err stop))) err → IsToldWithin limits words folder err (answer_of (Err stop))
+mesh_told limits words folder = end_tells tetgen_message (OutputsOfRun limits words folder) (IsNumbering limits words folder) (run_refuses limits words folder) (numbers_points limits words folder) folder
 
 first_told_by : (limits : Limits) (b : Bool) (words : List (List ℕ)) (folder : FolderSeen) (out err : SinkSeen) (stop : Stop) → EndsBy limits b words folder out (Err stop)
-    → IsMessagePut (message_of (numbering_in stop) (answer_of (Err stop))) err → IsToldWithin limits words folder err (answer_of (Err stop))
+    → IsMessagePut (tetgen_message (numbering_in stop) (answer_of (Err stop))) err → IsToldWithin limits words folder err (answer_of (Err stop))
 first_told_by limits false = mesh_told limits
 first_told_by limits true = check_told limits
 
 first_told : (limits : Limits) (words : List (List ℕ)) (folder : FolderSeen) (out err : SinkSeen) (stop : Stop) → EndsSo limits words folder out (Err stop)
-    → IsMessagePut (message_of (numbering_in stop) (answer_of (Err stop))) err → IsToldWithin limits words folder err (answer_of (Err stop))
+    → IsMessagePut (tetgen_message (numbering_in stop) (answer_of (Err stop))) err → IsToldWithin limits words folder err (answer_of (Err stop))
 first_told limits words = first_told_by limits (asks_check words) words
 
-pub stop_told : (limits : Limits) (words : List (List ℕ)) (folder : FolderSeen) (out err : SinkSeen) (stop : Stop) (s : Status) → EndsSo limits words folder out (Err stop) → IsToldAs message_of stop err s → IsToldWithin limits words folder err s
+pub stop_told : (limits : Limits) (words : List (List ℕ)) (folder : FolderSeen) (out err : SinkSeen) (stop : Stop) (s : Status) → EndsSo limits words folder out (Err stop) → IsToldAs tetgen_message stop err s → IsToldWithin limits words folder err s
 stop_told limits words folder out err stop s h (inl t) = subst (IsToldWithin limits words folder err) (sym t.0) (first_told limits words folder out err stop h t.1)
 stop_told limits words folder out err stop s h (inr t) = subst (IsToldWithin limits words folder err) (sym t.0) (None, (λ e. absurd (not_true e)), t.2)
-
--- the text at which a store failed has its message
-mesh_tellable : (limits : Limits) (words : List (List ℕ)) (folder : FolderSeen) (out : SinkSeen) (stop : Stop) → EndsByMesh limits words folder out (Err stop) → IsTellable stop
-mesh_tellable limits words folder = stop_tellable (OutputsOfRun limits words folder) (IsNumbering limits words folder) folder
-
-tellable_by : (limits : Limits) (b : Bool) (words : List (List ℕ)) (folder : FolderSeen) (out : SinkSeen) (stop : Stop) → EndsBy limits b words folder out (Err stop) → IsTellable stop
-tellable_by limits false = mesh_tellable limits
-tellable_by limits true = check_tellable
-
-pub end_tellable : (limits : Limits) (words : List (List ℕ)) (folder : FolderSeen) (out : SinkSeen) (stop : Stop) → EndsSo limits words folder out (Err stop) → IsTellable stop
-end_tellable limits words = tellable_by limits (asks_check words) words
 
 -- ---- the steps of the run
 
@@ -346,38 +330,10 @@ pub outputs_run : (limits : Limits) (words : List (List ℕ)) (folder : FolderSe
     → InputAnswer limits folder options (Ok input) → BoundAnswer limits options input (Ok bound) → AndThen (MeshAnswer options bound) (OutputsAnswer options) (Ok outputs) → OutputsOfRun limits words folder (Ok outputs)
 outputs_run limits words folder options input bound outputs w r b m = (options, w, (input, r, (bound, b, m)))
 
--- ---- the texts
-
-told_unless : (b : Bool) (base extension content : List ℕ) (o : Option NamedText) → o ≡ (if b then None else Some (named base extension content)) → All TellsFailure (given (o ∷ []))
-told_unless true base extension content o e = subst (λ o. All TellsFailure (given (o ∷ []))) (sym e) (All-nil TellsFailure)
-told_unless false base extension content o e = subst (λ o. All TellsFailure (given (o ∷ []))) (sym e) (All-cons TellsFailure (named base extension content) [] refl (All-nil TellsFailure))
-
-given_cons : (o : Option NamedText) (os : List (Option NamedText)) → given (o ∷ os) ≡ given (o ∷ []) ++ given os
-given_cons None os = refl
-given_cons (Some text) os = refl
-
-told_cons : (o : Option NamedText) (os : List (Option NamedText)) → All TellsFailure (given (o ∷ [])) → All TellsFailure (given os) → All TellsFailure (given (o ∷ os))
-told_cons o os h k = subst (All TellsFailure) (sym (given_cons o os)) (All-append TellsFailure (given (o ∷ [])) (given os) h k)
-
--- each text has its message
-pub outputs_told : (options : Options) (mesh : Meshed) (outputs : Outputs) → AreOutputsOf options mesh outputs → All TellsFailure (in_order outputs.texts)
-outputs_told options mesh outputs a =
-    let t = outputs.texts in
-    told_cons t.node (t.ele ∷ t.face ∷ t.edge ∷ t.neigh ∷ t.vtk ∷ t.msh ∷ []) (told_unless options.no_node options.base (codes ".1.node") _ t.node a.node_is)
-    (told_cons t.ele (t.face ∷ t.edge ∷ t.neigh ∷ t.vtk ∷ t.msh ∷ []) (told_unless options.no_ele options.base (codes ".1.ele") _ t.ele a.ele_is)
-    (told_cons t.face (t.edge ∷ t.neigh ∷ t.vtk ∷ t.msh ∷ []) (told_unless options.no_face options.base (codes ".1.face") _ t.face a.face_is)
-    (told_cons t.edge (t.neigh ∷ t.vtk ∷ t.msh ∷ []) (told_unless (options.no_face || not options.edges) options.base (codes ".1.edge") _ t.edge a.edge_is)
-    (told_cons t.neigh (t.vtk ∷ t.msh ∷ []) (told_unless (not options.neighbors) options.base (codes ".1.neigh") _ t.neigh a.neigh_is)
-    (told_cons t.vtk (t.msh ∷ []) (told_unless (not options.formats.vtk) options.base (codes ".1.vtk") _ t.vtk a.vtk_is)
-    (told_unless (not options.formats.msh) options.base (codes ".1.msh") _ t.msh a.msh_is))))))
-
-pub run_told : (limits : Limits) (words : List (List ℕ)) (folder : FolderSeen) (outputs : Outputs) → OutputsOfRun limits words folder (Ok outputs) → All TellsFailure (in_order outputs.texts)
-run_told limits words folder outputs h = let m = h.2.2 in outputs_told h.0 m.2.0 outputs m.2.2
-
 -- the end of the stores and of the summary is that of the run
 pub finish_end : (limits : Limits) (words : List (List ℕ)) (part folder : FolderSeen) (out : SinkSeen) (options : Options) (outputs : Outputs) (result : Result (Unit {0}) Stop) → WordsAnswer words (Ok options)
     → options.check ≡ false → OutputsOfRun limits words folder (Ok outputs) → part.files_before ≡ folder.files_before → part.files_now ≡ folder.files_now → folder.write_faults_before ≤ part.write_faults_before
     → part.write_faults_now ≡ folder.write_faults_now → FinishesSo outputs part out result → EndsSo limits words folder out result
 finish_end limits words part folder out options outputs result w n ran b now e f h =
     by_mesh limits words folder out options result w n
-    (finish_ends (OutputsOfRun limits words folder) (IsNumbering limits words folder) outputs part folder out result ran (run_told limits words folder outputs ran) b now e f h)
+    (finish_ends (OutputsOfRun limits words folder) (IsNumbering limits words folder) outputs part folder out result ran b now e f h)

@@ -1,12 +1,12 @@
 -- How a run ends that makes outputs and stores them, whatever its steps are: its status, the files that it leaves, and
 -- its messages.
-use Rattle.std.specs.Prelude.{◌≡◌, ◌⊎◌, ℕ, Bool, true, false, List, Option, Some, None, Result, Ok, Err, Contains}
+use Rattle.std.specs.Prelude.{◌≡◌, ◌⊎◌, ℕ, Bool, true, false, List, Option, Some, None, Result, Ok, Err}
 use Rattle.tet_ports.specs.Counts.{Rose}
 use Rattle.tet_ports.specs.Written.{PartlyPut, with_written}
 use Rattle.run_steps.specs.declared.numbering.Numbering.{Numbering}
 use Rattle.tet_ports.specs.Seen.{IsMessagePut, FolderSeen, SinkSeen}
 use Rattle.run_steps.specs.Reports.{text_in}
-use Rattle.run_steps.specs.Stores.{in_order, with_files, AreStoredTo, AreStoredInto, TellsFailure}
+use Rattle.run_steps.specs.Stores.{in_order, with_files, AreStoredTo, AreStoredInto}
 use Rattle.run_steps.specs.declared.outputs.Outputs.{Outputs}
 use Rattle.run_steps.specs.declared.status.Status.{Status}
 use Rattle.run_steps.specs.declared.status.Status.TheVariants.{Done, NotFlat, SegmentsCross, Crossing, GridEnd, BudgetEnd, NoFill, NoMemory, WriteFault}
@@ -100,7 +100,7 @@ FinishesSo outputs folder out (Ok done) = (folder.files_now ≡ with_files folde
 FinishesSo outputs folder out (Err (Refused status by)) = ⊥
 FinishesSo outputs folder out (Err (Unwritten text)) =
     AreStoredInto folder.files_before (in_order outputs.texts) text.name folder.files_now × (out.written_now ≡ out.written_before)
-    × Rose folder.write_faults_before folder.write_faults_now × Contains (in_order outputs.texts) text
+    × Rose folder.write_faults_before folder.write_faults_now
 FinishesSo outputs folder out (Err Unsummed) = (folder.files_now ≡ with_files folder.files_before (in_order outputs.texts))
     × PartlySummed out.written_before (text_in outputs) out.written_now
     × Rose out.faults_before out.faults_now
@@ -122,7 +122,7 @@ EndsWith Made Numbered folder out (Ok done) = (outputs : Outputs) × Made (Ok ou
 EndsWith Made Numbered folder out (Err (Refused status by)) = IsUnchanged folder out × Made (Err status) × Numbered status by
 EndsWith Made Numbered folder out (Err (Unwritten text)) = (outputs : Outputs) × Made (Ok outputs)
     × AreStoredInto folder.files_before (in_order outputs.texts) text.name folder.files_now × (out.written_now ≡ out.written_before)
-    × Rose folder.write_faults_before folder.write_faults_now × TellsFailure text
+    × Rose folder.write_faults_before folder.write_faults_now
 EndsWith Made Numbered folder out (Err Unsummed) = (outputs : Outputs) × Made (Ok outputs)
     × (folder.files_now ≡ with_files folder.files_before (in_order outputs.texts))
     × PartlySummed out.written_before (text_in outputs) out.written_now
@@ -137,11 +137,6 @@ IsSummed summary out (Ok done) = out.written_now ≡ with_summary out.written_be
 IsSummed summary out (Err Unsummed) = PartlySummed out.written_before summary out.written_now × Rose out.faults_before out.faults_now
 IsSummed summary out (Err Wanting) = out.written_now ≡ out.written_before
 IsSummed summary out (Err stop) = ⊥
-
--- a stop whose message can be told: a text has its message with it
-abbrev pub IsTellable : Stop → Type 0
-IsTellable (Unwritten text) = TellsFailure text
-IsTellable stop = Unit {0}
 
 -- the numbering of points in the message of a stop
 abbrev pub numbering_in : Stop → Option Numbering

@@ -1,5 +1,5 @@
 -- The status of a run of `tetgen`, the files that it leaves, and its messages.
-use Rattle.std.specs.Prelude.{◌≡◌, ◌≢◌, ℕ, ◌+◌, ◌<◌, ◌^◌, ℤ, Bool, true, false, ◌&&◌, not, IsTrue, List, All, length, Option, Some, None, Result, Ok, Err, if◌then◌else◌}
+use Rattle.std.specs.Prelude.{◌≡◌, ◌≢◌, ℕ, ◌+◌, ◌<◌, ◌^◌, ℤ, Bool, true, false, ◌&&◌, not, IsTrue, List, All, codes, length, Option, Some, None, Result, Ok, Err, if◌then◌else◌}
 use Rattle.mesh_check.specs.Checking.{CheckAnswer}
 use Rattle.mesh_check.specs.Telling.{sound_line}
 use Rattle.mesh_check.specs.declared.fault.CheckFault.{CheckFault}
@@ -181,9 +181,13 @@ IsNumbering limits words folder status by =
     → (input : Input) × InputAnswer limits folder (options_of words) (Ok input) × (bound : Bound)
     × BoundAnswer limits (options_of words) input (Ok bound) × (by ≡ Some (numbering_of bound.table))
 
+-- the message of a refusal, behind the name of the program
+abbrev pub tetgen_message : Option Numbering → Status → List ℕ
+tetgen_message = message_of (codes "tetgen: ")
+
 -- the message of each answer, by those numbers
 abbrev pub IsToldWithin : Limits → List (List ℕ) → FolderSeen → SinkSeen → Status → Type 0
-IsToldWithin limits words folder = TellsBy message_of (IsNumbering limits words folder)
+IsToldWithin limits words folder = TellsBy tetgen_message (IsNumbering limits words folder)
 
 -- ---- the program `tetgen`
 

@@ -1,15 +1,24 @@
 //! The end of a run: the stores of its outputs, their summary, and the message of a stop.
 
 ghost use Rattle.std.specs.Prelude.{◌≡◌, ◌≤◌, ◌⊎◌, IsErrOf, Err};
-ghost use Rattle.run_steps.specs.Messages.{message_of};
 ghost use Rattle.tet_ports.specs.Seen.{IsMessagePut, folder_seen, sink_seen};
-ghost use Rattle.tetgen_run.specs.Ends.{FinishesSo, IsSummed, IsTellable, IsToldAs};
+ghost use Rattle.tetgen_run.specs.Ends.{FinishesSo, IsSummed, IsToldAs};
+ghost use Rattle.tetgen_run.specs.Run.{tetgen_message};
 
 use crate::stop::Stop;
 use mesh_check::put_message;
-use run_steps::{OUT_OF_MEMORY, Outputs, SUMMARY_FAILED, Status, message, store_all, text_of};
+use run_steps::{Outputs, Status, message, put_unwritten, store_all, text_of};
 use std::alloc::Global;
 use tet_ports::{Bytes, Folder, PutFault, Sink};
+
+/// The beginning of each line.
+const NAME: &[u8] = b"tetgen: ";
+
+/// The message for out of memory, whose report needs no memory.
+const OUT_OF_MEMORY: &[u8] = b"tetgen: out of memory\n";
+
+/// The message that the summary could not be written.
+const SUMMARY_FAILED: &[u8] = b"tetgen: summary: write failed\n";
 
 /// Stores the files of outputs, in their order, and then writes their summary, where there is one.
 pub fn finish<F: Folder, O: Sink>(
@@ -46,19 +55,18 @@ pub(crate) fn sum_up<O: Sink>(summary: Option<Bytes>, out: &mut O) -> Result<(),
 /// Writes the message of a stop, and answers its status; out of memory where there is no memory for
 /// the message.
 pub(crate) fn tell<E: Sink>(alloc: Global, stop: Stop, err: &mut E) -> Status
-    requires { IsTellable stop }
-    ensures { IsToldAs message_of stop
+    ensures { IsToldAs tetgen_message stop
         (sink_seen E.state err.old err.new) result }
 {
     match &stop {
-        Stop::Refused { status, numbering } => match message(alloc, numbering, status) {
+        Stop::Refused { status, numbering } => match message(alloc, NAME, numbering, status) {
             Ok(line) => put_message(line.as_slice(), err),
             Err(_) => {
                 put_message(OUT_OF_MEMORY, err);
                 return Status::NoMemory;
             }
         },
-        Stop::Unwritten(text) => put_message(text.message.as_slice(), err),
+        Stop::Unwritten(text) => put_unwritten(NAME, &text.name, err),
         Stop::Unsummed => put_message(SUMMARY_FAILED, err),
         Stop::NoMemory => put_message(OUT_OF_MEMORY, err),
     }

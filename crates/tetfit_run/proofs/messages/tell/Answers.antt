@@ -1,7 +1,5 @@
-use Rattle.std.proofs.Common.{inl, subst, ap, sym, ◌∙◌}
+use Rattle.std.proofs.Common.{inl, subst, sym, ◌∙◌}
 use Rattle.tet_ports.specs.Seen.{IsMessagePut, SinkSeen, sink_seen}
-use Rattle.tetgen_run.specs.Ends.{IsTellable}
-use Rattle.tetfit_run.specs.Messages.{renamed_program}
 use Rattle.tetfit_run.proofs.Pieces.{nothing_behind}
 use Rattle.tetfit_run.proofs.messages.tell.Goals as goal
 use Rattle.tetfit_run.proofs.messages.tell.Goals.{in-Refused+in-Ok, in-Unwritten, in-Unsummed, in-NoMemory}
@@ -16,10 +14,8 @@ returns g c =
             let seen : SinkSeen = sink_seen E.state c.args.err.now w.put_message.new.err in
             rw (w.in-Refused.is, w.err-is) (subst (λ line. IsMessagePut line seen) (w.as_slice.ensures ∙ w.in-Ok.ensures) w.put_message.ensures)
         | in-Unwritten w ↦
-            let seen : SinkSeen = sink_seen E.state c.args.err.now w.put_renamed.new.err in
-            let tells = subst IsTellable w.in-Unwritten.is c.requires in
-            let line_is = ap renamed_program (w.as_slice-in-Unwritten.ensures ∙ tells) ∙ sym (nothing_behind _) in
-            rw (w.in-Unwritten.is, w.err-is) (subst (λ line. IsMessagePut line seen) line_is w.put_renamed.ensures)
+            let seen : SinkSeen = sink_seen E.state c.args.err.now w.put_unwritten.new.err in
+            rw (w.in-Unwritten.is, w.err-is) (subst (λ line. IsMessagePut line seen) (sym (nothing_behind _)) w.put_unwritten.ensures)
         | in-Unsummed w ↦ rw (w.in-Unsummed.is, w.err-is) w.put_message-in-Unsummed.ensures
         | in-NoMemory w ↦ rw (w.in-NoMemory.is, w.err-is) w.put_message-in-NoMemory.ensures
       ],

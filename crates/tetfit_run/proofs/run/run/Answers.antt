@@ -9,7 +9,7 @@ use Rattle.tetfit_run.specs.Run.{IsKnown}
 use Rattle.tetfit_run.specs.Said.{said_put}
 use Rattle.tetfit_run.specs.Stages.{says_stages, stages_text}
 use Rattle.tetfit_run.specs.declared.stages.TheConstants.{READS, STORES}
-use Rattle.tetfit_run.proofs.Fitted.{fit_refuses, fit_told, fit_wider}
+use Rattle.tetfit_run.proofs.Fitted.{fit_refuses, fit_wider}
 use Rattle.tetfit_run.proofs.Pieces.{finished_made, rounds_said, stage_said, stopped_unmade}
 use Rattle.tetfit_run.proofs.run.run.Goals as goal
 
@@ -33,7 +33,7 @@ returns-clause-ends g c =
     let outputs = c.in_ok-outputs.outputs in
     let made = fit_wider words part folder within (Ok outputs) c.in_ok-outputs.ensures.made in
     let out : SinkSeen = sink_seen O.state c.args.out.now c.finish.new.out in
-    finish_ends (OutputsOfFit words folder) (IsKnown (others words) folder c.outputs_of.new.hint) outputs stored folder out c.finish.result made (fit_told words folder outputs made) a.only_read.0 refl (omega (arith, a.only_read.1)) refl b.finish
+    finish_ends (OutputsOfFit words folder) (IsKnown (others words) folder c.outputs_of.new.hint) outputs stored folder out c.finish.result made a.only_read.0 refl (omega (arith, a.only_read.1)) refl b.finish
 
 pub returns-in_err-outputs-clause-stages : goal.returns-in_err-outputs-clause-stages
 returns-in_err-outputs-clause-stages g c =

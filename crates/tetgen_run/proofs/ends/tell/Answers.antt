@@ -1,6 +1,5 @@
 use Rattle.std.proofs.Common.{inl, subst, ◌∙◌}
 use Rattle.tet_ports.specs.Seen.{IsMessagePut, SinkSeen, sink_seen}
-use Rattle.tetgen_run.specs.Ends.{IsTellable}
 use Rattle.tetgen_run.proofs.ends.tell.Goals as goal
 use Rattle.tetgen_run.proofs.ends.tell.Goals.{in-Refused+in-Ok, in-Unwritten, in-Unsummed, in-NoMemory}
 
@@ -13,10 +12,7 @@ returns g c =
         | in-Refused+in-Ok w ↦
             let seen : SinkSeen = sink_seen E.state c.args.err.now w.put_message.new.err in
             rw (w.in-Refused.is, w.err-is) (subst (λ line. IsMessagePut line seen) (w.as_slice.ensures ∙ w.in-Ok.ensures) w.put_message.ensures)
-        | in-Unwritten w ↦
-            let seen : SinkSeen = sink_seen E.state c.args.err.now w.put_message-in-Unwritten.new.err in
-            let tells = subst IsTellable w.in-Unwritten.is c.requires in
-            rw (w.in-Unwritten.is, w.err-is) (subst (λ line. IsMessagePut line seen) (w.as_slice-in-Unwritten.ensures ∙ tells) w.put_message-in-Unwritten.ensures)
+        | in-Unwritten w ↦ rw (w.in-Unwritten.is, w.err-is) w.put_unwritten.ensures
         | in-Unsummed w ↦ rw (w.in-Unsummed.is, w.err-is) w.put_message-in-Unsummed.ensures
         | in-NoMemory w ↦ rw (w.in-NoMemory.is, w.err-is) w.put_message-in-NoMemory.ensures
       ],
