@@ -1,5 +1,5 @@
 -- The words of `tetfit`.
-use Rattle.std.specs.Prelude.{◌≡◌, ℕ, ◌+◌, ◌*◌, ◌^◌, pos, unsigned_abs, int_lt, Bool, true, false, not, ◌||◌, ◌&&◌, ◌==◌, nat_eq, nat_le, nat_lt, length, position, take, drop, filter, List, [], ◌∷◌, ◌++◌, codes, Option, Some, None, IfSome, is_some, option_and_then, unwrap_or, if◌then◌else◌}
+use Rattle.std.specs.Prelude.{◌≡◌, ℕ, ◌+◌, ◌*◌, ◌^◌, min, pos, unsigned_abs, int_lt, Bool, true, false, not, ◌||◌, ◌&&◌, ◌==◌, nat_eq, nat_le, nat_lt, length, position, take, drop, filter, List, [], ◌∷◌, ◌++◌, codes, Option, Some, None, IfSome, is_some, option_and_then, unwrap_or, if◌then◌else◌}
 use Rattle.std.specs.List.{list_any, starts_with}
 use Rattle.std.specs.Str.{bytes_eq}
 use Rattle.std.specs.Option.{option_map, option_map_or, option_or}
@@ -155,13 +155,17 @@ fit_goal words =
       splits_boundary = not (list_any keeps_boundary words);
     }) else None
 
--- ---- words that ask for files of the whole mesh in other formats
+-- ---- words that ask for files of the whole mesh in other formats, or for second order
 
 abbrev pub is_format : List ℕ → Bool
-is_format word = bytes_eq word (codes "-k") || bytes_eq word (codes "--msh")
+is_format word = bytes_eq word (codes "-k") || (bytes_eq word (codes "--msh") || bytes_eq word (codes "-o2"))
 
 abbrev pub formats_of : List (List ℕ) → Formats
-formats_of words = record { vtk = has_word words (codes "-k"); msh = has_word words (codes "--msh") }
+formats_of words = record {
+  vtk = has_word words (codes "-k");
+  msh = has_word words (codes "--msh");
+  second_order = has_word words (codes "-o2");
+}
 
 -- a word of this program alone that is not about the stages
 abbrev pub is_own : List ℕ → Bool
@@ -207,15 +211,22 @@ most_halvings = 18
 abbrev pub plain_options : List (List ℕ) → Options
 plain_options = options_within most_halvings
 
--- how often the grid of a model may be halved: not at all of points alone, to which no midpoint is added
-abbrev pub halvings_for : Options → ℕ
-halvings_for options = if options.piecewise then options.halvings else 0
+-- how often the grid of a model may be halved: not at all of points alone, to which no midpoint is added, and once less for second order,
+-- whose midpoints are printed with one halving more
+abbrev pub halvings_for : Bool → Options → ℕ
+halvings_for second_order options =
+    if not options.piecewise then 0 else if second_order then min options.halvings 17 else options.halvings
 
 -- the options that words ask for; the limits of regions need the regions of tetrahedra
 abbrev pub fit_options : List (List ℕ) → Options
 fit_options words =
     let plain = plain_options (plain_words words) in
-    record plain { formats = formats_of words; halvings = halvings_for plain; regions = plain.regions || list_any asks_limits words }
+    let formats = formats_of words in
+    record plain {
+      formats = formats;
+      halvings = halvings_for formats.second_order plain;
+      regions = plain.regions || list_any asks_limits words;
+    }
 
 -- and with them what the tetrahedra are to be like
 abbrev pub fit_wanted : List (List ℕ) → Wanted

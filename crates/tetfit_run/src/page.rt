@@ -31,6 +31,8 @@ name.1.face.\n\
 \x20 f     write all faces, and not those of the surface alone\n\
 \x20 e     write name.1.edge\n\
 \x20 k     write name.1.vtk, the whole mesh for viewers; a word of its own\n\
+\x20 o2    write tetrahedra and faces of second order, which have the midpoints of\n\
+\x20       their edges as corners too; a word of its own, as -o2\n\
 \x20 N     no .node file\n\
 \x20 E     no .ele file\n\
 \x20 F     no .face file and no .edge file\n\

@@ -23,7 +23,7 @@ pub enum Reason {
     Sizes,
     /// The word `-Y` without a bound on volumes or shapes.
     Boundary,
-    /// The letter o: tetrahedra with midpoints.
+    /// The letter o but for the word `-o2`, which asks for tetrahedra with midpoints.
     Order,
     /// The letter i: further points, from a file.
     Insertion,
@@ -82,7 +82,7 @@ impl Reason {
             Reason::Volume => b"a volume above 0 is wanted, and a model with facets",
             Reason::Sizes => b"sizes of tetrahedra are not there",
             Reason::Boundary => b"it goes with -a or -q",
-            Reason::Order => b"a tetrahedron has four corners, and no midpoints",
+            Reason::Order => b"midpoints of edges are corners by -o2, a word of its own",
             Reason::Insertion => b"points are not added from a list",
             Reason::Coarsening => b"meshes are not made coarser",
             Reason::Optimization => b"tetrahedra are made better by -q",

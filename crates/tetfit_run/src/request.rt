@@ -6,13 +6,13 @@ ghost use Rattle.command_words.specs.Meaning.{AreInRange};
 ghost use Rattle.command_words.specs.declared.fault.WordsFault.TheVariants.{Usage};
 ghost use Rattle.tetfit_run.specs.Words.{request_of, asks_limits, asks_page, asks_stages, asks_version, elsewhere_in, first_elsewhere, formats_of, has_word, asks_elsewhere, is_bounding, is_format, is_letter_elsewhere, is_of_goal, is_own, is_plain, is_shape, is_volume, keeps_boundary, named_fault, others, plain_fault, plain_options, plain_words, told_fault, IsPlainRequest};
 
-use crate::kinds::{BOUNDARY, DECIMALS, MSH, SAMPLE, SHAPE, VOLUME, VTK, is_cluster};
+use crate::kinds::{BOUNDARY, DECIMALS, MSH, SAMPLE, SECOND_ORDER, SHAPE, VOLUME, VTK, is_cluster};
 use command_words::{Formats, Options, WordsFault, read_words_within};
 use std::alloc::Global;
 use tet_ports::{Name, NoMemory, Words};
 
 /// How often the words may ask that the grid be halved.
-const MOST_HALVINGS: u32 = 18;
+pub(crate) const MOST_HALVINGS: u32 = 18;
 
 /// What the words ask for first of all.
 #[derive(Clone, Copy, Debug, PartialEq, Eq)]
@@ -109,11 +109,11 @@ fn is_of_goal(word: &[u8]) -> bool
     is_bounding(word) || keeps_boundary(word)
 }
 
-/// Whether the word asks for a file of the whole mesh in another format.
+/// Whether the word asks for a file of the whole mesh in another format, or for second order.
 fn is_format(word: &[u8]) -> bool
     ensures { result ≡ is_format word.now }
 {
-    is_word(word, VTK) || is_word(word, MSH)
+    is_word(word, VTK) || (is_word(word, MSH) || is_word(word, SECOND_ORDER))
 }
 
 /// Whether the word is of this program alone, and not about the stages.
@@ -124,13 +124,14 @@ fn is_own(word: &[u8]) -> bool
 }
 
 /// The files of the whole mesh that the words ask for: `-k` for the `.vtk` file, and `--msh` for
-/// the `.msh` file.
+/// the `.msh` file; and whether they ask, by `-o2`, for tetrahedra and faces of second order.
 pub(crate) fn formats_of(words: &Words) -> Formats
     ensures { result ≡ formats_of words.now }
 {
     Formats {
         vtk: has_word(words, VTK),
         msh: has_word(words, MSH),
+        second_order: has_word(words, SECOND_ORDER),
     }
 }
 

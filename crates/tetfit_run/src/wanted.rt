@@ -7,7 +7,7 @@ ghost use Rattle.tetfit_run.specs.Words.{IsPlainRequest, IsRefinable, among_all}
 ghost use Rattle.tetfit_run.specs.Words.{fit_fault, fit_wanted, halvings_for, plain_words};
 
 use crate::goal::{asks_region_limits, bad_bound, fit_goal, goal_fault};
-use crate::request::{formats_of, plain_words, read_options};
+use crate::request::{MOST_HALVINGS, formats_of, plain_words, read_options};
 use command_words::{Options, WordsFault};
 use refining::Goal;
 use std::alloc::Global;
@@ -39,14 +39,17 @@ fn among_all(words: &Words, count: usize, fault: WordsFault) -> WordsFault
 }
 
 /// How often the grid of a model may be halved: not at all of points alone, to which no midpoint is
-/// added. Their coordinates stay small then, and so do the sums of their signs.
-fn halvings_for(options: &Options) -> u32
-    ensures { result ≡ halvings_for options.now }
+/// added, so that their coordinates stay small, and so do the sums of their signs; and once less
+/// for second order, whose midpoints are printed with one halving more.
+fn halvings_for(second_order: bool, options: &Options) -> u32
+    ensures { result ≡ halvings_for second_order options.now }
 {
-    if options.piecewise {
-        options.halvings
-    } else {
+    if !options.piecewise {
         0
+    } else if second_order {
+        options.halvings.min(MOST_HALVINGS - 1)
+    } else {
+        options.halvings
     }
 }
 
@@ -80,7 +83,7 @@ pub fn read_wanted(alloc: Global, words: &Words) -> Result<Wanted, WordsFault>
         Err(fault) => return Err(among_all(words, plain.len(), fault)),
     };
     options.formats = formats_of(words);
-    options.halvings = halvings_for(&options);
+    options.halvings = halvings_for(options.formats.second_order, &options);
     options.regions = options.regions || asks_region_limits(words);
     let goal = fit_goal(words);
     if let Some((word, place)) = goal_fault(words, &goal, options.piecewise) {
