@@ -1,7 +1,7 @@
 use Rattle.std.proofs.Common.{sym, subst}
 use Rattle.refining.specs.Refining.{IsTakenMesh, IsTurn}
 use Rattle.refining.specs.Rounds.{AreShown}
-use Rattle.refining.proofs.Shown.{both_shown}
+use Rattle.refining.proofs.Shown.{both_shown, none_shown}
 use Rattle.refining.proofs.refining.improved.Goals as goal
 use Rattle.refining.proofs.refining.improved.Goals.{then-branch, else-branch+else-is_some, else-loop-test, then-loop-test+in_ok-next+in_default, then-loop-test+in_ok-next+in-More+in_ok-show+in_ok-is_better+else-branch+then-is_some}
 
@@ -29,6 +29,14 @@ returns-clause-shown g c =
       | then-loop-test+in_ok-next+in-More+in_ok-show+in_ok-is_better+else-branch+then-is_some w ↦
           subst (λ s. AreShown W.shown shapes options bound c.args.watch.now s) (sym w.watch-is) (both_shown W.shown g.met.W.Watch.both shapes options bound _ _ _ last w.show.ensures)
     ]
+
+pub loop-init : goal.loop-init
+loop-init g c =
+    let t = c.args.task in
+    record {
+      best = c.requires.first;
+      shown = none_shown g.W.Watch.shown g.met.W.Watch.nothing t.bounds.now.shapes.now t.options.now t.bound.now c.args.watch.now;
+    }
 
 pub loop-preserved : goal.loop-preserved
 loop-preserved g c =
