@@ -30,7 +30,7 @@ use Rattle.command_words.specs.Meaning.{no_formats, options_of}
 use Rattle.command_words.specs.declared.options.Formats.{Formats}
 use Rattle.command_words.specs.declared.options.Options.{Options}
 use Rattle.run_steps.proofs.Asked.{asked_by_face}
-use Rattle.run_steps.specs.Outputs.{AreOutputsOf, first_of, named, whole_of}
+use Rattle.run_steps.specs.Outputs.{AreFirstOutputsOf, first_of, named, whole_of}
 use Rattle.run_steps.specs.Stores.{given, in_order, with_files}
 use Rattle.solver_files.specs.Msh.{msh_text}
 use Rattle.solver_files.specs.Vtk.{vtk_text}
@@ -58,7 +58,7 @@ first_small options mesh one = go options.from_zero
     go true = omega arith
     go false = one
 
-module _ (options : Options) (mesh : Meshed) (outputs : Outputs) (are : AreOutputsOf options mesh outputs) (can : AreCheckable options mesh outputs)
+module _ (options : Options) (mesh : Meshed) (outputs : Outputs) (are : AreFirstOutputsOf options mesh outputs) (can : AreCheckable options mesh outputs)
     (table : IsOfTable mesh) (input : HasInputNumbers mesh) (marks : HasRegionMarks mesh) (on : All (IsOn mesh.points) mesh.tetrahedra) (unmoved : options.origin ≡ None) (alone : options.formats ≡ no_formats) where
   first : ℕ
   first = first_of options mesh

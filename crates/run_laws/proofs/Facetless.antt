@@ -1,8 +1,9 @@
 -- The mesh of a complex without segments and facets, with its hull kept: the Delaunay list of its points, and no other.
 use Rattle.std.proofs.Common.{◌≡◌, ◌≢◌, ℕ, ◌<◌, false, true, List, [], Option, Some, None, refl, sym, ap, subst, ◌∙◌, arith}
-use Rattle.std.specs.Prelude.{AllPairs, IsSome, IsTrue}
+use Rattle.std.specs.Prelude.{AllPairs, Contains, IsSome, IsTrue}
+use Rattle.std.specs.List.{slice_index_or}
 use Rattle.std.proofs.lemmas.Bool.{true≢false}
-use Rattle.std.proofs.lemmas.List.Elements.{All-nil}
+use Rattle.std.proofs.lemmas.List.Elements.{All-nil, Contains-get_or}
 use Rattle.sign_predicates.specs.Point.{Point}
 use Rattle.geo_laws.specs.Complex.{empty_complex}
 use Rattle.geo_laws.specs.Delaunay.{AreCoplanar, delaunay_rows}
@@ -12,8 +13,11 @@ use Rattle.geo_laws.specs.Path.{HullOnly, KeepHull}
 use Rattle.geo_laws.specs.Segment.{pieces, protect, Protected}
 use Rattle.geo_laws.specs.Simplex.{ProperlyMet}
 use Rattle.geo_laws.specs.declared.complex.Piece.{Piece}
+use Rattle.geo_laws.specs.declared.tetrahedra.Tet.{Tet}
 use Rattle.geo_laws.proofs.DelaunayList.{law_delaunay_list, triangulation_of_rows}
 use Rattle.segment_protect.specs.Crossing.{AreMet}
+use Rattle.tangle_laws.specs.Tangle.{IsAdmissible}
+use Rattle.tangle_laws.proofs.Steps.{law_uncrossed as law_uncrossed_row}
 use Rattle.path_laws.specs.Places.{IsFilling}
 use Rattle.complex_laws.specs.ComplexMesh.{HasNoCrossing, IsCarved}
 use Rattle.complex_laws.proofs.ComplexMesh.{law_all_kept, law_hull_mesh, law_uncrossed}
@@ -40,6 +44,10 @@ below_none f h = omega arith
 -- nothing is crossed
 none_crossed : (ps : List Point) → HasNoCrossing ps []
 none_crossed ps t l facet h = let k = h.2.1 in below_none k.0 k.2
+
+-- so each Delaunay tetrahedron is admissible
+none_hidden : (ps : List Point) (t : Tet) → Contains (delaunay_rows ps) t → IsAdmissible ps [] t
+none_hidden ps t l = law_uncrossed_row ps [] t (((law_delaunay_list ps).exactly t).0 l) (none_crossed ps t l)
 
 none_tangled : (ps : List Point) → HasTangle ps [] (delaunay_rows ps) → ⊥
 none_tangled ps tangle = let t = tangle.is_tangled in none_crossed ps tangle.row tangle.is_row t.0 t.3
@@ -77,6 +85,7 @@ module _ (ps : List Point) (solid : ¬ AreCoplanar ps) (given : IsMeshable 12 10
       facets = All-nil _;
       locally_delaunay = hull_mesh.locally_delaunay;
     };
+    admissible = λ k d l. none_hidden ps (slice_index_or (delaunay_rows ps) k d) (Contains-get_or (delaunay_rows ps) k d l);
     by_sides = λ untangled. (law_uncrossed ps [] (delaunay_rows ps) (none_crossed ps)).1 refl;
     whole_mesh = record { filling = filling; arranged = λ k d l. (hull_mesh.positive k d l).2; locally_delaunay = hull_mesh.locally_delaunay };
   }

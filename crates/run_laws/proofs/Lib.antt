@@ -43,3 +43,5 @@ pub mod Listed
 pub mod Checked
 pub mod Grids
 pub mod WrittenBack
+pub mod Once
+pub mod Constrained

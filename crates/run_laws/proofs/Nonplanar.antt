@@ -20,8 +20,8 @@ use Rattle.plc_files.specs.declared.form.Form.TheVariants as form
 use Rattle.tet_ports.specs.Counts.{Rose}
 use Rattle.tet_ports.specs.Files.{Holds}
 use Rattle.tet_text.specs.Lines.{content_lines}
+use Rattle.tetgen_run.specs.Run.{tetgen_message}
 use Rattle.run_steps.specs.Meshing.{BoundAnswer, MeshAnswer}
-use Rattle.run_steps.specs.Messages.{message_of}
 use Rattle.run_steps.specs.Numbering.{numbering_of}
 use Rattle.run_steps.specs.Reading.{InputAnswer, complex_file, on_points, plc_text_of}
 use Rattle.tet_ports.specs.Seen.{FolderSeen}
@@ -149,4 +149,4 @@ unfolding digits
 tells folder err has no_fault told =
     let n = told.1 refl in
     let same = bound_is n.0 n.2 (input_is folder has no_fault n.0 n.1) n.3 in
-    subst (λ by. IsMessagePut (message_of by not_flat) err) (n.4 ∙ ap (λ (b : Bound). Some (numbering_of b.table)) same) told.2
+    subst (λ by. IsMessagePut (tetgen_message by not_flat) err) (n.4 ∙ ap (λ (b : Bound). Some (numbering_of b.table)) same) told.2

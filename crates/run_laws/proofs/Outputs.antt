@@ -6,7 +6,7 @@ use Rattle.grid_coords.specs.Units.{decimal_of_units}
 use Rattle.node_files.specs.Writing.{fields_text, like_lines, line_text, list_text, point_lines}
 use Rattle.node_files.specs.declared.table.NodeTable.{NodeTable}
 use Rattle.tet_text.specs.Printing.{numeral}
-use Rattle.run_steps.specs.Outputs.{AreOutputsOf}
+use Rattle.run_steps.specs.Outputs.{AreFirstOutputsOf}
 use Rattle.run_steps.specs.declared.meshed.Meshed.{Meshed}
 use Rattle.run_laws.specs.Pyramid.{full_outputs, plain_outputs, WritesSummary}
 use Rattle.run_laws.proofs.Faces.{all_faces, all_sides, faces_are, hull, sides_are}
@@ -45,7 +45,7 @@ pyramid_mesh = record {
   hidden = None;
 }
 
-pub plain_are : (complex : Bool) → AreOutputsOf (asking false complex) pyramid_mesh plain_outputs
+pub plain_are : (complex : Bool) → AreFirstOutputsOf (asking false complex) pyramid_mesh plain_outputs
 unfolding decimal_of_units digits fields_text like_lines line_text list_text point_lines numeral
 plain_are complex = record {
   marked = map marked hull;
@@ -64,7 +64,7 @@ plain_are complex = record {
   report_is = refl;
 }
 
-pub full_are : AreOutputsOf (asking true false) pyramid_mesh full_outputs
+pub full_are : AreFirstOutputsOf (asking true false) pyramid_mesh full_outputs
 unfolding decimal_of_units digits fields_text like_lines line_text list_text point_lines numeral
 full_are = record {
   marked = map marked all_faces;

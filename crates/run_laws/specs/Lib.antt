@@ -15,3 +15,4 @@ pub mod ReadBack
 pub mod Listed
 pub mod Checked
 pub mod Measured
+pub mod Constrained

@@ -36,7 +36,6 @@ abbrev pub pyramid_node_text : NamedText
 pyramid_node_text = record {
   name = codes "pyramid.1.node";
   content = codes "5 3 0 0\n0 0 0 0\n1 2 0 0\n2 2 2 0\n3 0 2 0\n4 1 1 2\n";
-  message = codes "tetgen: pyramid.1.node: write failed\n";
 }
 
 -- two tetrahedra: the diagonal of the square goes from 1 to 3
@@ -44,7 +43,6 @@ abbrev pub pyramid_ele_text : NamedText
 pyramid_ele_text = record {
   name = codes "pyramid.1.ele";
   content = codes "2 4 0\n0 0 1 3 4\n1 1 2 3 4\n";
-  message = codes "tetgen: pyramid.1.ele: write failed\n";
 }
 
 -- a face file with these bytes
@@ -52,7 +50,6 @@ abbrev pub pyramid_face_text : List ℕ → NamedText
 pyramid_face_text content = record {
   name = codes "pyramid.1.face";
   content = content;
-  message = codes "tetgen: pyramid.1.face: write failed\n";
 }
 
 -- the six faces on the hull
@@ -67,7 +64,6 @@ abbrev pub pyramid_edge_text : NamedText
 pyramid_edge_text = record {
   name = codes "pyramid.1.edge";
   content = codes "9 0\n0 0 1\n1 0 3\n2 0 4\n3 1 2\n4 1 3\n5 1 4\n6 2 3\n7 2 4\n8 3 4\n";
-  message = codes "tetgen: pyramid.1.edge: write failed\n";
 }
 
 -- each tetrahedron has the other across the face opposite its first or its second corner
@@ -75,7 +71,6 @@ abbrev pub pyramid_neigh_text : NamedText
 pyramid_neigh_text = record {
   name = codes "pyramid.1.neigh";
   content = codes "2 4\n0 1 -1 -1 -1\n1 -1 0 -1 -1\n";
-  message = codes "tetgen: pyramid.1.neigh: write failed\n";
 }
 
 -- what is written to the standard output: the counts, and no lines behind them

@@ -8,7 +8,7 @@ use Rattle.mesh_check.specs.Defects.{IsVerdict}
 use Rattle.mesh_check.specs.declared.defect.Verdict.TheVariants.{Sound}
 use Rattle.written_laws.specs.WrittenMesh.{written_mesh}
 use Rattle.run_steps.specs.Meshing.{MeshAnswer}
-use Rattle.run_steps.specs.Outputs.{AreOutputsOf, face_file}
+use Rattle.run_steps.specs.Outputs.{AreFirstOutputsOf, face_file}
 use Rattle.run_steps.specs.declared.mesh.Bound.{Bound}
 use Rattle.run_steps.specs.declared.meshed.Meshed.{Meshed}
 use Rattle.run_steps.specs.declared.outputs.Outputs.{Outputs}
@@ -27,10 +27,11 @@ pub record HasSoundFaces (options : Options) (mesh : Meshed) (outputs : Outputs)
   pub written : outputs.texts.face ≡ face_file options mesh faces
   pub sound : IsVerdict (written_mesh mesh.points mesh.tetrahedra faces) Sound
 
--- Where the outputs have a face file, it has the faces of a mesh without a defect
+-- Where the outputs have a face file of first order, it has the faces of a mesh without a defect
 abbrev pub SoundOutputsLaw : Type 0
 SoundOutputsLaw = (options : Options) (bound : Bound) (mesh : Meshed) (outputs : Outputs) → options.weighted ≡ false
-    → MeshAnswer options bound (Ok mesh) → AreOutputsOf options mesh outputs → options.no_face ≡ false → HasSoundFaces options mesh outputs
+    → MeshAnswer options bound (Ok mesh) → AreFirstOutputsOf options mesh outputs → options.no_face ≡ false
+    → HasSoundFaces options mesh outputs
 
 -- The face file that a run leaves has the faces of a mesh without a defect, the one mesh of the input that its words
 -- name

@@ -5,6 +5,7 @@
 mod checked_runs;
 mod complete_checks;
 mod complete_points;
+mod constrained_meshes;
 mod inputs;
 mod measured;
 mod reread;
@@ -16,6 +17,7 @@ mod worked;
 pub use checked_runs::{law_checked_after, law_checked_run, law_few_decimals};
 pub use complete_checks::{law_check_complete, law_where_complete};
 pub use complete_points::{law_points_complete, law_weights_complete};
+pub use constrained_meshes::{law_constrained_mesh, law_constrained_once};
 pub use inputs::{law_nodes_read, law_plc_read, law_surface_read};
 pub use measured::law_written_back;
 pub use reread::{
