@@ -1,5 +1,5 @@
 /* The Delaunay list of a pyramid, in the caller's array and in a block of memory; the mesh of a tetrahedron with facets, and of a facet with a hole;
-   points of floats; a run on a text; and refusals of each. */
+   points of floats; a run on a text, and one on a binary model with points added for shapes; and refusals of each. */
 #include "tetgen.h"
 #include <stdio.h>
 #include <stdlib.h>
@@ -158,6 +158,56 @@ static void over_texts(void) {
     show(message, lengths, 2);
 }
 
+/* A block of 1 by 1 by 4: the corner with the place x + 2 y + 4 z is (x, y, 4 z), and each triangle is seen from outside. */
+static const unsigned char SIDES[12][3] = {{0, 2, 1}, {1, 2, 3}, {4, 5, 6}, {5, 7, 6}, {0, 1, 4}, {1, 5, 4},
+                                           {2, 6, 3}, {3, 6, 7}, {0, 4, 2}, {2, 4, 6}, {1, 3, 5}, {3, 7, 5}};
+
+#define BLOCK_SIZE (84 + 50 * 12)
+
+/* Writes four bytes, the lowest first, and answers what is behind them. */
+static char *put_bits(char *at, uint32_t bits) {
+    for (int i = 0; i < 4; i++)
+        *at++ = (char)(bits >> 8 * i);
+    return at;
+}
+
+/* Writes the block as a binary .stl: the floats 0, 1 and 4 have the bits 0, 0x3f800000 and 0x40800000. */
+static void put_block(char *model) {
+    char *at = put_bits(memset(model, 0, BLOCK_SIZE) + 80, 12);
+    for (int side = 0; side < 12; side++, at += 2) {
+        at += 12;
+        for (int k = 0; k < 3; k++) {
+            unsigned corner = SIDES[side][k];
+            at = put_bits(at, corner & 1 ? 0x3f800000 : 0);
+            at = put_bits(at, corner & 2 ? 0x3f800000 : 0);
+            at = put_bits(at, corner & 4 ? 0x40800000 : 0);
+        }
+    }
+}
+
+static void of_a_model(void) {
+    char model[BLOCK_SIZE], message[200];
+    const tetgen_slice words[3] = {SLICE("-q1.1"), SLICE("-a0.2"), SLICE("block.stl")}, bad[2] = {SLICE("-q0.5"), SLICE("block.stl")};
+    const tetgen_text files[1] = {{"block.stl", 9, model, sizeof model}};
+    const tetgen_slice wanted[1] = {SLICE("block.1.ele")};
+    tetgen_task task = {words, 3, files, 1, wanted, 1};
+    size_t lengths[3] = {0}, needed = 0, count = 0;
+    put_block(model);
+    check(tetfit_run(&task, lengths, 3, NULL, 0, &needed) == TETGEN_NO_ROOM && needed > 0 && lengths[0] == 0, "no room for the texts of a model");
+    char *room = malloc(needed);
+    check(room != NULL, "memory");
+    check(tetfit_run(&task, lengths, 3, room, needed, &count) == TETGEN_DONE && count == needed, "the run on a model");
+    check(lengths[1] == 0 && lengths[0] + lengths[2] == count, "the texts of a model");
+    show(room, lengths, 1);
+    free(room);
+    task = (tetgen_task){bad, 2, files, 1, NULL, 0};
+    check(tetfit_run(&task, lengths, 3, message, sizeof message, &count) == 1, "a ratio that is too small");
+    show(message, lengths, 2);
+    task = (tetgen_task){words, 3, NULL, 0, NULL, 0};
+    check(tetfit_run(&task, lengths, 3, message, sizeof message, &count) == 2, "no model");
+    show(message, lengths, 2);
+}
+
 int main(void) {
     in_an_array();
     in_a_block();
@@ -166,5 +216,6 @@ int main(void) {
     of_floats();
     in_words();
     over_texts();
+    of_a_model();
     return 0;
 }

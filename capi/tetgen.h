@@ -223,6 +223,11 @@ typedef struct {
    written. */
 int32_t tetgen_run(const tetgen_task *task, size_t *lengths, size_t length_count, char *room, size_t room_size, size_t *count);
 
+/* Runs the program tetfit, which meshes models as they are found and adds points for volumes and shapes, as tetgen_run does tetgen: with what tetfit
+   promises on a disk, and within its limits. With the word -V the stages stand before the message, so there are messages after TETGEN_DONE too. Words
+   that ask for the page or the version leave it among the lines. */
+int32_t tetfit_run(const tetgen_task *task, size_t *lengths, size_t length_count, char *room, size_t room_size, size_t *count);
+
 #ifdef __cplusplus
 }
 #endif

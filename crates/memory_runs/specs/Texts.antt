@@ -7,6 +7,7 @@ use Rattle.tet_ports.specs.MemFolder.{MemoryFiles}
 use Rattle.tet_ports.specs.MemSink.{MemoryBytes}
 use Rattle.memory_runs.specs.declared.handing.RunFault.{RunFault}
 use Rattle.memory_runs.specs.declared.handing.RunFault.TheVariants.{NoRoom, NoMemory}
+use Rattle.memory_runs.specs.declared.ran.Ran.{Ran}
 use Rattle.memory_runs.specs.declared.texts.Slice.{Slice}
 use Rattle.memory_runs.specs.declared.texts.Text.{Text}
 
@@ -37,9 +38,9 @@ folder_of files = fold with_text no_files files
 abbrev pub text_in : MemoryFiles → Slice → Option (List ℕ)
 text_in folder name = map.get folder.files name.bytes.now
 
--- the lines, the messages, and each of these files
-abbrev pub texts_left : MemoryFiles → MemoryBytes → MemoryBytes → List Slice → List (Option (List ℕ))
-texts_left folder out err wanted = Some out.bytes ∷ Some err.bytes ∷ map (text_in folder) wanted
+-- the lines and the messages of a run, and each of these files as its folder has it in the end
+abbrev pub texts_left : Ran → List Slice → List (Option (List ℕ))
+texts_left ran wanted = Some ran.memory.out.bytes ∷ Some ran.memory.err.bytes ∷ map (text_in ran.memory.folder) wanted
 
 -- the length of a text, and 2^64 - 1 for a file that is not there
 abbrev pub length_of : Option (List ℕ) → ℕ

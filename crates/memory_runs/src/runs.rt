@@ -1,46 +1,12 @@
-//! Runs of `tetgen` over texts in memory.
+//! Calls that run a program on words and files of the caller.
 
 ghost use Rattle.std.specs.Prelude.{◌≡◌, ◌<◌, ◌+◌, IfErr, IfOk, OnErr, length, take};
-ghost use Rattle.memory_runs.specs.Runs.{IsHandedOver, IsRunFault, IsTetgenRun};
+ghost use Rattle.memory_runs.specs.Runs.{IsHandedOver, IsRunFault, IsTetfitRun, IsTetgenRun};
 
-use crate::handing::{RunFault, hand_over};
-use crate::texts::{Task, folder_of, join, words_of};
-use run_steps::Status;
+use crate::handing::{HandedOver, RunFault, hand_over};
+use crate::ran::{tetfit_over, tetgen_over};
+use crate::texts::{Task, folder_of, words_of};
 use std::alloc::Global;
-use tet_ports::{MemFolder, MemSink, Words};
-use tetgen_run::run_tetgen;
-
-/// A run whose texts are handed over: its exit status, and how many bytes the texts have.
-#[derive(Clone, Copy, Debug, PartialEq, Eq)]
-pub struct HandedOver {
-    pub code: u8,
-    pub count: usize,
-}
-
-/// A run that has ended.
-#[derive(Drop)]
-struct Ran {
-    status: Status,
-    folder: MemFolder,
-    out: MemSink,
-    err: MemSink,
-}
-
-/// The run of `tetgen` over a folder and two streams in memory.
-fn run_over(alloc: Global, words: &Words, folder: MemFolder) -> Ran
-    ensures { IsTetgenRun words.now folder result.folder result.out result.err result.status }
-{
-    let mut after = folder;
-    let mut out = MemSink::new(alloc);
-    let mut err = MemSink::new(alloc);
-    let status = run_tetgen(alloc, words, &mut after, &mut out, &mut err);
-    Ran {
-        status,
-        folder: after,
-        out,
-        err,
-    }
-}
 
 /// Runs `tetgen` on the words of a task, over a folder that has its files alone, and hands over
 /// what it leaves: its lines, its messages, and each wanted file that is there, one behind another
@@ -67,14 +33,30 @@ pub fn tetgen_into(
 {
     let words = words_of(alloc, task.words)?;
     let folder = folder_of(alloc, task.files)?;
-    let ran = run_over(alloc, &words, folder);
-    let code = ran.status.code();
-    if code == 10 {
-        return Err(RunFault::NoMemory);
-    }
-    let made = join(alloc, &ran.folder, &ran.out, &ran.err, task.wanted)?;
-    match hand_over(&made, lengths, room) {
-        Ok(count) => Ok(HandedOver { code, count }),
-        Err(fault) => Err(fault),
-    }
+    let ran = tetgen_over(alloc, &words, folder);
+    hand_over(alloc, &ran, task.wanted, lengths, room)
+}
+
+/// Runs `tetfit` on the words of a task, and hands over what it leaves, as `tetgen_into` does of
+/// `tetgen`. With the word `-V` the stages are among the messages.
+///
+/// Refusals: as of `tetgen_into`.
+pub fn tetfit_into(
+    alloc: Global,
+    task: &Task<'_>,
+    lengths: &mut [usize],
+    room: &mut [u8],
+) -> Result<HandedOver, RunFault>
+    ensures run { IfOk result (λ made. IsHandedOver IsTetfitRun task.now
+        (take (length task.now.wanted.now + 2) lengths.new) (take made.count room.new) made.code) }
+    ensures code { IfOk result (λ made. (made.code < 20) × ¬ made.code ≡ 10) }
+    ensures fault { IfErr result
+        (IsRunFault IsTetfitRun task.now (length lengths.old) (length room.old)) }
+    ensures lengths_kept { OnErr result (lengths.new ≡ lengths.old) }
+    ensures room_kept { OnErr result (room.new ≡ room.old) }
+{
+    let words = words_of(alloc, task.words)?;
+    let folder = folder_of(alloc, task.files)?;
+    let ran = tetfit_over(alloc, &words, folder);
+    hand_over(alloc, &ran, task.wanted, lengths, room)
 }

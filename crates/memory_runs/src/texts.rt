@@ -1,10 +1,10 @@
-//! What a caller hands to a run in memory, and the texts that the run leaves.
+//! What a caller hands to a run in memory.
 
-ghost use Rattle.std.specs.Prelude.{◌≡◌, ◌≤◌, map, IfOk, length};
-ghost use Rattle.memory_runs.specs.Texts.{bytes_of, folder_of, joined, length_of, texts_left};
+ghost use Rattle.std.specs.Prelude.{◌≡◌, map, IfOk};
+ghost use Rattle.memory_runs.specs.Texts.{bytes_of, folder_of};
 
 use std::alloc::Global;
-use tet_ports::{Bytes, MemFolder, MemSink, Name, NoMemory, Words};
+use tet_ports::{Bytes, MemFolder, Name, NoMemory, Words};
 
 /// Bytes of a caller, such as a word or the name of a file.
 #[repr(C)]
@@ -31,13 +31,6 @@ pub struct Task<'a> {
     pub wanted: &'a [Slice<'a>],
 }
 
-/// Texts, one behind another: the length of each, and `usize::MAX` for one that is not there.
-#[derive(Drop)]
-pub(crate) struct Joined {
-    pub(crate) lengths: Vec<usize>,
-    pub(crate) bytes: Bytes,
-}
-
 /// The words of a run.
 pub(crate) fn words_of(alloc: Global, words: &[Slice<'_>]) -> Result<Words, NoMemory>
     ensures { IfOk result (λ made. made ≡ map bytes_of words.now) }
@@ -59,36 +52,4 @@ pub(crate) fn folder_of(alloc: Global, files: &[Text<'_>]) -> Result<MemFolder, 
         folder.add(&name, &Bytes::from_slice(alloc, file.bytes)?)?;
     }
     Ok(folder)
-}
-
-/// The lines, the messages, and those of these files that the folder has.
-pub(crate) fn join(
-    alloc: Global,
-    folder: &MemFolder,
-    out: &MemSink,
-    err: &MemSink,
-    wanted: &[Slice<'_>],
-) -> Result<Joined, NoMemory>
-    ensures lengths { IfOk result (λ made. made.lengths.items
-        ≡ map length_of (texts_left folder.now out.now err.now wanted.now)) }
-    ensures bytes { IfOk result (λ made. made.bytes
-        ≡ joined (texts_left folder.now out.now err.now wanted.now)) }
-{
-    let mut lengths = Vec::with_capacity(alloc, 2)?;
-    let mut bytes = Bytes::new(alloc);
-    lengths.push(out.bytes().len())?;
-    bytes.append(out.bytes().as_slice())?;
-    lengths.push(err.bytes().len())?;
-    bytes.append(err.bytes().as_slice())?;
-    for slice in wanted {
-        let name = Name::from_slice(alloc, slice.bytes)?;
-        match folder.get(&name) {
-            Some(text) => {
-                lengths.push(text.len())?;
-                bytes.append(text.as_slice())?;
-            }
-            None => lengths.push(usize::MAX)?,
-        }
-    }
-    Ok(Joined { lengths, bytes })
 }

@@ -1,5 +1,5 @@
 -- The statuses with which a call from C ends.
-use Rattle.std.specs.Prelude.{◌≡◌, ℕ, ℤ, pos, List, length}
+use Rattle.std.specs.Prelude.{◌≡◌, ℕ, ℤ, pos, List, Result, Ok, Err, length}
 use Rattle.array_meshes.specs.Arrays.{AreDelaunayRows, IsArrayFault, IsMeshFault, code_of, wanted_of}
 use Rattle.array_meshes.specs.Doubles.{IsDoubleFault, code_of as double_code}
 use Rattle.array_meshes.specs.Meshes.{IsArrayMesh, IsComplexFault, IsMeshedFault, MeshLists, code_of as complex_code, counts_of, wanted_of as wanted_counts}
@@ -12,6 +12,9 @@ use Rattle.array_meshes.specs.declared.doubles.DoubleFault.{DoubleFault}
 use Rattle.array_meshes.specs.declared.doubles.DoublePoint.{DoublePoint}
 use Rattle.array_meshes.specs.declared.fault.ComplexFault.{ComplexFault}
 use Rattle.array_meshes.specs.declared.fault.Counts.{Counts}
+use Rattle.memory_runs.specs.declared.handing.HandedOver.{HandedOver}
+use Rattle.memory_runs.specs.declared.handing.RunFault.{RunFault}
+use Rattle.memory_runs.specs.declared.handing.RunFault.TheVariants.{NoRoom, NoMemory}
 use Rattle.memory_runs.specs.declared.texts.Task.{Task}
 use Rattle.tetgen_c.specs.declared.meshes.MeshBlocks.{MeshBlocks}
 
@@ -69,3 +72,9 @@ pub record HasRun (Run : RunLaw) (task : Task) (lengths bytes : List ℕ) (statu
   pub code : ℕ
   pub status_is : status ≡ pos code
   pub handed : IsHandedOver Run task lengths bytes code
+
+-- the count and the status of a run over texts: its own, or 20 where there is no room, or 10 out of memory
+abbrev pub IsAnswered : Result HandedOver RunFault → ℕ → ℤ → Type 0
+IsAnswered (Ok made) count status = (count ≡ made.count) × (status ≡ pos made.code)
+IsAnswered (Err (NoRoom wanted)) count status = (count ≡ wanted) × (status ≡ pos 20)
+IsAnswered (Err NoMemory) count status = (count ≡ 0) × (status ≡ pos 10)

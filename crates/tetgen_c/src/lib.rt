@@ -12,4 +12,4 @@ pub use arrays::{Rows, tetgen_delaunay, tetgen_delaunay_into};
 pub use doubles::tetgen_places_of;
 pub use meshes::{MeshBlocks, tetgen_mesh, tetgen_mesh_into};
 pub use messages::tetgen_message;
-pub use runs::tetgen_run;
+pub use runs::{tetfit_run, tetgen_run};
