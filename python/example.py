@@ -1,5 +1,6 @@
-"""Meshes of arrays and of texts by tetgen.py: a pyramid, a box with a wall, a facet with a hole, points of floats, 2,000 points, refusals, and as many
-calls of each kind as its word says, 10,000 without one, that keep no memory."""
+"""Meshes of arrays and of texts by tetgen.py: a pyramid, a box with a wall, the box with points added for shapes and volumes, a surface, a facet with a
+hole, points of floats, 2,000 points, refusals, and as many calls of each kind as its word says, 10,000 without one, that keep no memory. Of calls that
+add points to the box there are a tenth as many, since each takes some milliseconds."""
 import fractions
 import random
 import sys
@@ -13,6 +14,7 @@ PYRAMID = [(0, 0, 0), (2, 0, 0), (2, 2, 0), (0, 2, 0), (1, 1, 2)]
 # A box of 6 by 4 by 2 with a wall of 4 by 2 in it, from the floor to the lid.
 BOX = [(x, y, z) for x in (0, 6) for y in (0, 4) for z in (0, 2)] + [(x, 2, z) for x in (1, 5) for z in (0, 2)]
 SIDES = [[0, 1, 3, 2], [4, 6, 7, 5], [0, 4, 5, 1], [2, 3, 7, 6], [[0, 2, 6, 4], [8, 10]], [[1, 5, 7, 3], [9, 11]], [8, 10, 11, 9]]
+SURFACE = "OFF 4 4\n0 0 0\n1 0 0\n0 1 0\n0 0 0.1\n3 0 2 1\n3 0 1 3\n3 0 3 2\n3 1 2 3\n"
 CALLS = int(sys.argv[1]) if len(sys.argv) > 1 else 10_000
 # What a process may take more after the calls than before them: none of them keeps a page.
 PAGE = 4096
@@ -55,16 +57,25 @@ def volumes(points, rows):
     return np.einsum("ij,ij->i", np.cross(b - a, c - a), d - a)
 
 
-def run_refused(words, files):
+def ratios(points, rows):
+    """The radius of the circumsphere of each tetrahedron over its shortest edge."""
+    a, b, c, d = (points[rows[:, k]] for k in range(4))
+    to = np.stack([b - a, c - a, d - a], axis=1)
+    center = np.linalg.solve(to, np.einsum("ijk,ijk->ij", to, to)[:, :, None] / 2)[:, :, 0]
+    edges = [one - other for one, other in ((a, b), (a, c), (a, d), (b, c), (b, d), (c, d))]
+    return np.linalg.norm(center, axis=1) / np.min([np.linalg.norm(it, axis=1) for it in edges], axis=0)
+
+
+def run_refused(words, files, program="tetgen"):
     try:
-        tetgen.run(words, files)
+        tetgen.run(words, files, program=program)
     except tetgen.TetgenError as error:
         return error.status, error.message
     return 0, ""
 
 
-def call(points):
-    """Calls of each kind, two of them refused."""
+def call(points, place):
+    """Calls of each kind, some of them refused; at each tenth place one that adds points to the box."""
     tetgen.delaunay(points)
     refused(PYRAMID[:4])
     tetgen.mesh(BOX, SIDES, regions=[(1, 1, 1)])
@@ -73,6 +84,10 @@ def call(points):
     float_refused(points / 8, 23)
     tetgen.run(["-n", "p"], {"p.node": NODE})
     run_refused(["-n", "p"], {})
+    tetgen.run(["-q", "t.off"], {"t.off": SURFACE}, program="tetfit")
+    run_refused(["-q", "t.off"], {}, "tetfit")
+    if place % 10 == 0:
+        tetgen.mesh(BOX, SIDES, quality=(1.4, 0), volume=1, regions=[(1, 1, 1)])
 
 
 def are_neighbors(made):
@@ -126,6 +141,32 @@ def of_a_complex():
     print(f"{len(made.points)} points, {len(made.rows)} tetrahedra in a box with a wall")
 
 
+def of_shapes():
+    """The box with points that are added for shapes and volumes, and refusals."""
+    made = tetgen.mesh(BOX, SIDES, markers=range(10, 17), quality=(1.4, 15), volume=0.5)
+    sixth = volumes(made.points, made.rows)
+    assert (sixth > 0).all() and sixth.sum() == 6 * 48 * 8**made.halvings and (2 * sixth <= 6 * 8**made.halvings).all()
+    assert (ratios(made.coordinates(), made.rows) < 1.4 + 1e-9).all() and made.beyond == {"over": 0, "slim": 0, "flat": 0}
+    assert (made.points[: len(BOX)] == np.array(BOX) << made.halvings).all() and set(made.markers) == set(range(10, 17))
+    assert set(made.regions) == {tetgen.NO_REGION}
+    are_neighbors(made)
+    fine = tetgen.mesh(BOX, SIDES, regions=[(9, 9, 9), (1, 1, 1)], volume=[0.001, 0.25])
+    assert set(fine.regions) == {1} and (4 * volumes(fine.points, fine.rows) <= 6 * 8**fine.halvings).all() and fine.beyond == {"over": 0}
+    coarse = tetgen.mesh(BOX, SIDES, regions=[(1, 1, 1)], volume=[None])
+    assert len(coarse.points) == len(BOX) and (coarse.rows == tetgen.mesh(BOX, SIDES).rows).all()
+    assert mesh_refused(BOX, SIDES, quality=0.5) == 1 and mesh_refused(BOX, [[0, 1, 99]], volume=1) == 4
+    assert mesh_refused(BOX, [[0, 1, 7, 4]], quality=2) == 6 and mesh_refused([], [], volume=1e-9) == 6
+    assert mesh_refused([*BOX, (0, 0, 2**29 + 1)], SIDES, volume=1) == 5
+    print(f"{len(made.points)} points, {len(made.rows)} tetrahedra in the box with points added for shapes and volumes")
+
+
+def of_a_surface():
+    """A run of tetfit, which takes a surface as it is found."""
+    line, files = tetgen.run(["-q100", "-NF", "--msh", "t.off"], {"t.off": SURFACE}, program="tetfit")
+    assert line == "points 4 added 0 tetrahedra 1 faces 4 edges 6 decimals 1 slim 0 flat 1\n" and sorted(files) == ["t.1.ele", "t.1.msh"]
+    assert run_refused(["-q", "t.off"], {}, "tetfit")[0] == 2 and run_refused(["-x", "t.off"], {}, "tetfit")[0] == 1
+
+
 def main():
     print(tetgen.delaunay(PYRAMID).tolist())
     line, files = tetgen.run(["-n", "p"], {"p.node": NODE})
@@ -137,6 +178,8 @@ def main():
     assert refused([*PYRAMID, (0, 0, 2**29 + 1)]) == 5
 
     of_a_complex()
+    of_shapes()
+    of_a_surface()
     of_a_ring()
     of_floats()
 
@@ -146,11 +189,11 @@ def main():
     assert (volumes(points, rows) > 0).all()
     print(f"{len(points)} points, {len(rows)} tetrahedra")
 
-    for _ in range(CALLS // 10):
-        call(points[:40])
+    for place in range(CALLS // 10):
+        call(points[:40], place)
     before = resident()
-    for _ in range(CALLS):
-        call(points[:40])
+    for place in range(CALLS):
+        call(points[:40], place)
     kept = resident() - before
     assert kept <= LEFT, f"{CALLS} calls of each kind kept {kept} bytes"
     print(f"{CALLS} calls of each kind kept {max(0, kept)} bytes")
