@@ -15,6 +15,7 @@ mod located_point_runs;
 mod merged_facet_runs;
 mod program_runs;
 mod refined_runs;
+mod second_order_runs;
 mod surface_runs;
 mod test_inputs;
 mod weighted_point_runs;

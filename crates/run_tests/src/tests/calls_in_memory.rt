@@ -1,7 +1,7 @@
 //! Calls on arrays of points and on texts in memory.
 
 use array_meshes::{ArrayFault, Place, Row, delaunay_into, delaunay_rows};
-use memory_runs::{HandedOver, RunFault, Slice, Task, Text, tetgen_into};
+use memory_runs::{HandedOver, RunFault, Slice, Task, Text, tetfit_into, tetgen_into};
 use std::alloc::Global;
 use std::test::Fail;
 
@@ -136,5 +136,61 @@ fn other_texts(alloc: Global) -> Option<&'static str> {
 #[test]
 fn texts_are_handed_over(rt: HostRuntime) -> Result<(), Fail> {
     assert_eq!(rt; other_texts(rt.alloc()), None);
+    Ok(())
+}
+
+static FIT_WORDS: [Slice<'static>; 2] = [Slice { bytes: b"-q" }, Slice { bytes: b"t.stl" }];
+
+/// A tetrahedron by its four facets.
+static FIT_FILES: [Text<'static>; 1] = [Text {
+    name: b"t.stl",
+    bytes: b"\
+solid\n\
+facet normal 0 0 0\nouter loop\nvertex 0 0 0\nvertex 0 1 0\nvertex 1 0 0\nendloop\n\
+endfacet\n\
+facet normal 0 0 0\nouter loop\nvertex 0 0 0\nvertex 1 0 0\nvertex 0 0 1\nendloop\n\
+endfacet\n\
+facet normal 0 0 0\nouter loop\nvertex 0 0 0\nvertex 0 0 1\nvertex 0 1 0\nendloop\n\
+endfacet\n\
+facet normal 0 0 0\nouter loop\nvertex 1 0 0\nvertex 0 1 0\nvertex 0 0 1\nendloop\n\
+endfacet\n\
+endsolid\n",
+}];
+
+static FIT_WANTED: [Slice<'static>; 1] = [Slice { bytes: b"t.1.ele" }];
+
+/// The summary and the tetrahedron, as they are handed over.
+static FIT_TEXTS: &[u8] =
+    b"points 4 added 0 tetrahedra 1 faces 4 edges 6 decimals 0 slim 0 flat 0\n1 4 0\n0 0 1 3 2\n";
+
+/// The first call of `tetfit` that ends otherwise than it should, by its name.
+fn other_fit(alloc: Global) -> Option<&'static str> {
+    let task = Task {
+        words: &FIT_WORDS,
+        files: &FIT_FILES,
+        wanted: &FIT_WANTED,
+    };
+    let mut lengths = [0; 3];
+    let mut room = [0; 87];
+    let told = tetfit_into(alloc, &task, &mut lengths, &mut room[..86]);
+    if told != Err(RunFault::NoRoom { count: 87 }) {
+        return Some("room for all bytes but one");
+    }
+    let told = tetfit_into(alloc, &task, &mut lengths, &mut room);
+    if told != Ok(HandedOver { code: 0, count: 87 }) {
+        return Some("the end of the run");
+    }
+    if lengths[0] != 71 || lengths[1] != 0 || lengths[2] != 16 {
+        return Some("the lengths");
+    }
+    if !are_bytes(&room, FIT_TEXTS) {
+        return Some("the texts");
+    }
+    None
+}
+
+#[test]
+fn models_are_handed_over(rt: HostRuntime) -> Result<(), Fail> {
+    assert_eq!(rt; other_fit(rt.alloc()), None);
     Ok(())
 }

@@ -6,7 +6,7 @@ use crate::tests::harness::{Run, other_run};
 use std::test::Fail;
 
 /// The points of a pyramid.
-const PYRAMID: &[u8] = b"5 3 0 0\n0 0 0 0\n1 2 0 0\n2 2 2 0\n3 0 2 0\n4 1 1 2\n";
+pub(crate) const PYRAMID: &[u8] = b"5 3 0 0\n0 0 0 0\n1 2 0 0\n2 2 2 0\n3 0 2 0\n4 1 1 2\n";
 
 const PYRAMID_VTK: &[u8] = b"\
 # vtk DataFile Version 3.0\ntetgen\nASCII\nDATASET UNSTRUCTURED_GRID\nPOINTS 5 double\n\
@@ -22,7 +22,7 @@ $MeshFormat\n2.2 0 8\n$EndMeshFormat\n$Nodes\n5\n1 0 0 0\n2 2 0 0\n3 2 2 0\n4 0 
 8 2 2 1 1 3 4 5\n$EndElements\n";
 
 /// A box in a box, with a region in each.
-const BOXES: &[u8] = b"\
+pub(crate) const BOXES: &[u8] = b"\
 16 3 0 0\n1 0 0 0\n2 3 0 0\n3 3 3 0\n4 0 3 0\n5 0 0 3\n6 3 0 3\n7 3 3 3\n8 0 3 3\n\
 9 1 1 1\n10 2 1 1\n11 2 2 1\n12 1 2 1\n13 1 1 2\n14 2 1 2\n15 2 2 2\n16 1 2 2\n12\n1\n\
 4 1 2 3 4\n1\n4 5 6 7 8\n1\n4 1 5 6 2\n1\n4 2 6 7 3\n1\n4 3 7 8 4\n1\n4 4 8 5 1\n1\n\
