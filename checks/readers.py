@@ -12,7 +12,19 @@ import tempfile
 TOP = os.path.dirname(os.path.dirname(os.path.abspath(__file__)))
 FITTING = f"{TOP}/crates/tetfit/out/tetfit"
 # The words of each run, and the example that it meshes.
-RUNS = [(["-A"], "boxes.poly"), ([], "pyramid.node"), (["-f"], "lprism.poly"), (["-c"], "bar.poly")]
+RUNS = [
+    (["-A"], "boxes.poly"),
+    ([], "pyramid.node"),
+    (["-f"], "lprism.poly"),
+    (["-c"], "bar.poly"),
+    (["-o2", "-A"], "boxes.poly"),
+    (["-o2"], "pyramid.node"),
+    (["-o2", "-f"], "lprism.poly"),
+]
+# Which of the midpoints of edges, in the order of TetGen, meshio has at each place of a tetrahedron and of a triangle, from both formats.
+TET_MIDDLES, FACE_MIDDLES = (2, 3, 5, 1, 4, 0), (2, 0, 1)
+# The names of cells in meshio, by the order.
+KINDS = {False: ("tetra", "triangle"), True: ("tetra10", "triangle6")}
 # Run by a Python that has meshio: what it reads of a file, as JSON.
 MESHIO = """
 import json, meshio, sys
@@ -28,13 +40,36 @@ def lines_of(name):
         return [line.split() for line in file.readlines()[1:]]
 
 
-def written(base):
+def written(base, is_second):
     """The points, the tetrahedra with their regions, and the triangles with their markers, corners counted from 0."""
+    four, three = (10, 6) if is_second else (4, 3)
     first = int(lines_of(f"{base}.node")[0][0])
     points = [[float(x) for x in line[1:4]] for line in lines_of(f"{base}.node")]
-    rows = [([int(x) - first for x in line[1:5]], float(line[5]) if len(line) > 5 else 0.0) for line in lines_of(f"{base}.ele")]
-    faces = [([int(x) - first for x in line[1:4]], int(line[4])) for line in lines_of(f"{base}.face")]
+    rows = [
+        ([int(x) - first for x in line[1 : four + 1]], float(line[four + 1]) if len(line) > four + 1 else 0.0)
+        for line in lines_of(f"{base}.ele")
+    ]
+    faces = [([int(x) - first for x in line[1 : three + 1]], int(line[three + 1])) for line in lines_of(f"{base}.face")]
     return points, rows, faces
+
+
+def turned(cells, middles):
+    """The cells with the midpoints behind their corners in another order."""
+    return [(corners[: -len(middles)] + [corners[it - len(middles)] for it in middles], number) for corners, number in cells]
+
+
+def as_read(rows, faces, is_second):
+    """The tetrahedra and the triangles as meshio has them."""
+    return (turned(rows, TET_MIDDLES), turned(faces, FACE_MIDDLES)) if is_second else (rows, faces)
+
+
+def middles_differ(points, rows):
+    """Each corner behind the first four is halfway between two of them."""
+    for corners, _ in rows:
+        a, b, c, d = corners[:4]
+        for edge, at in zip(((c, d), (a, d), (a, b), (b, c), (b, d), (a, c)), corners[4:]):
+            if [2 * x for x in points[at]] != [x + y for x, y in zip(points[edge[0]], points[edge[1]])]:
+                yield f"{at} is not between {edge}"
 
 
 def python_with(module):
@@ -53,29 +88,38 @@ def joined(cells, data, kind):
     return [(corners, number) for (name, block), numbers in zip(cells, data) if name == kind for corners, number in zip(block, numbers)]
 
 
-def meshio_differs(python, base, is_grouped):
-    points, rows, faces = written(base)
+def meshio_differs(python, base, is_grouped, is_second):
+    points, rows, faces = written(base, is_second)
+    yield from middles_differ(points, rows)
+    four, three = KINDS[is_second]
+    tets, triangles = as_read(rows, faces, is_second)
     at, cells, data = read_by_meshio(python, f"{base}.vtk")
-    if at != points or joined(cells, data["region"], "tetra") != rows or joined(cells, data["marker"], "triangle") != faces:
+    if at != points or joined(cells, data["region"], four) != tets or joined(cells, data["marker"], three) != triangles:
         yield "meshio reads another mesh from the .vtk file"
     at, cells, data = read_by_meshio(python, f"{base}.msh")
-    groups = [(corners, region if is_grouped else 1) for corners, region in rows]
-    markers = [(corners, marker if marker > 0 else 0) for corners, marker in faces]
+    groups = [(corners, region if is_grouped else 1) for corners, region in tets]
+    markers = [(corners, marker if marker > 0 else 0) for corners, marker in triangles]
     tags = data["gmsh:physical"]
-    if at != points or joined(cells, tags, "tetra") != groups or joined(cells, tags, "triangle") != markers:
+    if at != points or joined(cells, tags, four) != groups or joined(cells, tags, three) != markers:
         yield "meshio reads another mesh from the .msh file"
 
 
+def part_of(text, name):
+    """The numbers in the lines of a part of a file of Gmsh, but for the first line."""
+    return [line.split() for line in text.partition(f"${name}\n")[2].partition(f"$End{name}")[0].splitlines()[1:]]
+
+
 def elements_of(name):
-    """The elements of a file of Gmsh, as sorted tuples of type, physical group and corners."""
+    """The elements of a file of Gmsh, as sorted tuples of type, physical group and the places of the corners."""
     with open(name, encoding="ascii") as file:
-        body = file.read().partition("$Elements\n")[2].partition("$EndElements")[0].splitlines()[1:]
-    fields = [[int(x) for x in line.split()] for line in body]
-    return sorted((line[1], line[3], *line[3 + line[2] :]) for line in fields)
+        text = file.read()
+    places = {line[0]: tuple(float(x) for x in line[1:]) for line in part_of(text, "Nodes")}
+    rows = [(int(line[1]), int(line[3]), [places[it] for it in line[3 + int(line[2]) :]]) for line in part_of(text, "Elements")]
+    return sorted(rows)
 
 
 def gmsh_differs(base):
-    """Gmsh writes the elements again that it has read, but for those of no group."""
+    """Gmsh writes the elements again that it has read, but for those of no group. It may number the points anew."""
     words = ["gmsh", f"{base}.msh", "-save", "-format", "msh22", "-o", f"{base}.again.msh"]
     ran = subprocess.run(words, capture_output=True, text=True, check=False)
     if ran.returncode or "Error" in ran.stdout + ran.stderr:
@@ -105,7 +149,7 @@ def differences(python, has_gmsh, switches, example):
             return
         base = f"{folder}/{example.partition('.')[0]}.1"
         if python:
-            yield from meshio_differs(python, base, "-A" in switches)
+            yield from meshio_differs(python, base, "-A" in switches, "-o2" in switches)
         if has_gmsh:
             yield from gmsh_differs(base)
 
