@@ -351,6 +351,68 @@ fn candidates_on_two_plates(rt: HostRuntime) {
     }
 }
 
+/// Two plates with three points near each.
+const PLATES_AND_RINGS: [[i8; 3]; 12] = [
+    [-9, -9, 0],
+    [9, -9, 0],
+    [0, 9, 0],
+    [-9, -9, 2],
+    [9, -9, 2],
+    [0, 9, 2],
+    [0, -3, 3],
+    [3, 2, 3],
+    [-3, 2, 3],
+    [0, -3, -1],
+    [3, 2, -1],
+    [-3, 2, -1],
+];
+
+/// And a point between them, all of whose Delaunay tetrahedra the plates cross.
+const POINT_BETWEEN: Set = &[&PLATES_AND_RINGS, &[[0, 0, 1]]];
+
+/// The list for the plates without the point between them, if there is one.
+fn without_point(alloc: Global) -> Result<Option<TetList>, FillFault> {
+    let Some(points) = small_set(alloc, &[&PLATES_AND_RINGS]) else {
+        return Ok(None);
+    };
+    let triangles = triangles_of(alloc, &[[0, 1, 2], [3, 4, 5]])?;
+    if !are_facet_triangles(&points, &triangles) {
+        return Ok(None);
+    }
+    let Ok(list) = delaunay(alloc, &points) else {
+        return Ok(None);
+    };
+    if list.is_empty() {
+        return Ok(None);
+    }
+    Ok(Some(fill_tangle(alloc, &points, &list, &triangles)?))
+}
+
+/// Whether that list is accepted for the points with the one between them; None where it may not
+/// be asked.
+fn is_accepted_without(alloc: Global) -> Result<Option<bool>, FillFault> {
+    let Some(candidate) = without_point(alloc)? else {
+        return Ok(None);
+    };
+    let Some(points) = small_set(alloc, POINT_BETWEEN) else {
+        return Ok(None);
+    };
+    let triangles = triangles_of(alloc, &[[0, 1, 2], [3, 4, 5]])?;
+    if !are_facet_triangles(&points, &triangles) {
+        return Ok(None);
+    }
+    let Ok(list) = delaunay(alloc, &points) else {
+        return Ok(None);
+    };
+    let found = accepted(alloc, &points, &list, &triangles, candidate)?;
+    Ok(Some(found.is_some()))
+}
+
+#[test]
+fn list_without_a_point_is_refused(rt: HostRuntime) {
+    assert!(rt; is_accepted_without(rt.alloc()) == Ok(Some(false)));
+}
+
 /// An odd factor that takes small sets towards the ends of the grid: the power of two that all
 /// coordinates have in common stays as it is.
 const FAR: i32 = (1 << 22) - 1;
