@@ -213,7 +213,7 @@ typedef struct {
 /* Runs the program tetgen on the words of the task, over a folder in memory that has the files of the task alone. No file of the system is read or
    written.
 
-   The result is the exit status of the program (docs/MANUAL.md), 0 to 13. The program promises of its words, its folder and its streams what it
+   The result is the exit status of the program (docs/MANUAL.md), 0 to 14. The program promises of its words, its folder and its streams what it
    promises on a disk: the status has its cause, the files are those of the mesh, and after a refusal all is as it was. But for TETGEN_NO_MEMORY,
    *count bytes at the front of room are what the run leaves, one text behind another: its lines, which go to standard output; its messages, which
    go to standard error; and each wanted file that its folder has then, in the order of the task. lengths[0] and lengths[1] are the lengths of the

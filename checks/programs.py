@@ -184,7 +184,7 @@ def fitted():
             continue
         status, said, stored = texts(FITTING, ["-nfe"], name)
         if status == 0:
-            front, _, decimals = said.rstrip("\n").rpartition(" decimals ")
+            front, _, decimals = said.splitlines()[0].rpartition(" decimals ")
             exact = texts(PROGRAM, ["-nfe", f"--decimals={decimals}"], name)
             if exact[0] not in (OFF_GRID, COARSE_GRID) and exact != (0, f"{front}\n", stored):
                 yield f"{name} at {decimals} decimals"

@@ -38,15 +38,21 @@ fn counted_told(report: Report, counts: Counts) -> Report
 fn with_counts(outputs: Outputs, counts: Counts) -> Outputs
     ensures { result ≡ with_counts counts outputs }
 {
-    let Outputs { texts, report } = outputs;
+    let Outputs {
+        texts,
+        report,
+        tetrahedra,
+    } = outputs;
     match report {
         None => Outputs {
             texts,
             report: None,
+            tetrahedra,
         },
         Some(report) => Outputs {
             texts,
             report: Some(counted_told(report, counts)),
+            tetrahedra,
         },
     }
 }

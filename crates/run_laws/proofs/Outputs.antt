@@ -62,6 +62,7 @@ plain_are complex = record {
   vtk_is = refl;
   msh_is = refl;
   report_is = refl;
+  count_is = refl;
 }
 
 pub full_are : AreFirstOutputsOf (asking true false) pyramid_mesh full_outputs
@@ -81,6 +82,7 @@ full_are = record {
   vtk_is = refl;
   msh_is = refl;
   report_is = refl;
+  count_is = refl;
 }
 
 -- the line that sums them up

@@ -111,6 +111,7 @@ plain_outputs = record {
     msh = None;
   };
   report = Some pyramid_report;
+  tetrahedra = 2;
 }
 
 -- and with the three
@@ -126,4 +127,5 @@ full_outputs = record {
     msh = None;
   };
   report = Some pyramid_report;
+  tetrahedra = 2;
 }

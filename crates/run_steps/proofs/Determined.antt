@@ -121,7 +121,8 @@ module _ (options : Options) (mesh : Meshed) (p q : Outputs) (a : AreFirstOutput
       let vtk = a.vtk_is ∙ vtk_files ∙ sym b.vtk_is in
       let msh = a.msh_is ∙ msh_files ∙ sym b.msh_is in
       let report = a.report_is ∙ reports ∙ sym b.report_is in
-      λ i. record { texts = record { node = node i; ele = ele i; face = face i; edge = edge i; neigh = neigh i; vtk = vtk i; msh = msh i }; report = report i }
+      let count = a.count_is ∙ sym b.count_is in
+      λ i. record { texts = record { node = node i; ele = ele i; face = face i; edge = edge i; neigh = neigh i; vtk = vtk i; msh = msh i }; report = report i; tetrahedra = count i }
 
 -- of second order
 module _ (options : Options) (mesh : Meshed) (p q : Outputs) (a : AreSecondOutputsOf options mesh p) (b : AreSecondOutputsOf options mesh q) where
@@ -136,7 +137,8 @@ module _ (options : Options) (mesh : Meshed) (p q : Outputs) (a : AreSecondOutpu
       ∙ ap (λ (s : List Side). texts_by b.marked s) sides ∙ sym b.texts_are in
       let faces = faces_once mesh.tetrahedra a.faces b.faces a.faces_are b.faces_are in
       let report = a.report_is ∙ reports_same options mesh a.faces b.faces a.sides b.sides (λ e. faces) (λ e. sides) ∙ sym b.report_is in
-      λ i. record { texts = texts i; report = report i }
+      let count = a.count_is ∙ sym b.count_is in
+      λ i. record { texts = texts i; report = report i; tetrahedra = count i }
 
 -- two outputs of one mesh are the same
 pub outputs_same : (options : Options) (mesh : Meshed) (p q : Outputs) → AreOutputsOf options mesh p → AreOutputsOf options mesh q → p ≡ q

@@ -69,31 +69,45 @@ if_missing_once first second one two r s n m (inr f) (inr g) = two r s n m f.2 g
 
 -- ---- steps that answer with one status
 
--- the status of an answer, as it is forced: Done where there is a value
-abbrev pub status_of : {A : Type 0} → Result A Status → Status
-status_of (Ok a) = Done
-status_of (Err status) = forced_answer status
+-- the status of an answer, as it is read: Done where there is a value
+abbrev pub status_by : {A : Type 0} → (Status → Status) → Result A Status → Status
+status_by read (Ok a) = Done
+status_by read (Err status) = read status
 
--- any two answers of the step have one status
+-- any two answers of the step have one status, as it is read
+abbrev pub IsSameBy : {A : Type 0} → (Status → Status) → (Result A Status → Type 0) → Type 0
+IsSameBy {A = A} read step = (r s : Result A Status) → IsDecided r → IsDecided s → step r → step s → status_by read r ≡ status_by read s
+
+pub once_same_by : {A : Type 0} (read : Status → Status) (step : Result A Status → Type 0) → IsOnce step → IsSameBy read step
+once_same_by read step one r s n m h k = ap (status_by read) (one r s n m h k)
+
+pub and_then_same_by : {A B : Type 0} (read : Status → Status) (first : Result A Status → Type 0) (next : A → Result B Status → Type 0) → IsOnce first → ((a : A) → IsSameBy read (next a)) → IsSameBy read (AndThen first next)
+and_then_same_by read first next one two (Ok b) (Ok c) n m f g = refl
+and_then_same_by read first next one two (Ok b) (Err t) n m f (inl g) = absurd (ok_err f.0 t (one (Ok f.0) (Err t) tt m f.1 g))
+and_then_same_by read first next one two (Ok b) (Err t) n m f (inr g) =
+    two g.0 (Ok b) (Err t) n m (subst (λ a. next a (Ok b)) (ok_same f.0 g.0 (one (Ok f.0) (Ok g.0) tt tt f.1 g.1)) f.2) g.2
+and_then_same_by read first next one two (Err s) (Ok c) n m (inl f) g = absurd (ok_err g.0 s (sym (one (Err s) (Ok g.0) n tt f g.1)))
+and_then_same_by read first next one two (Err s) (Ok c) n m (inr f) g =
+    two g.0 (Err s) (Ok c) n m (subst (λ a. next a (Err s)) (ok_same f.0 g.0 (one (Ok f.0) (Ok g.0) tt tt f.1 g.1)) f.2) g.2
+and_then_same_by read first next one two (Err s) (Err t) n m (inl f) (inl g) = once_same_by read first one (Err s) (Err t) n m f g
+and_then_same_by read first next one two (Err s) (Err t) n m (inl f) (inr g) = absurd (ok_err g.0 s (sym (one (Err s) (Ok g.0) n tt f g.1)))
+and_then_same_by read first next one two (Err s) (Err t) n m (inr f) (inl g) = absurd (ok_err f.0 t (one (Ok f.0) (Err t) tt m f.1 g))
+and_then_same_by read first next one two (Err s) (Err t) n m (inr f) (inr g) =
+    two g.0 (Err s) (Err t) n m (subst (λ a. next a (Err s)) (ok_same f.0 g.0 (one (Ok f.0) (Ok g.0) tt tt f.1 g.1)) f.2) g.2
+
+-- the status of an answer, as it is forced
+abbrev pub status_of : {A : Type 0} → Result A Status → Status
+status_of {A = A} = status_by {A = A} forced_answer
+
+-- any two answers of the step have one status, as it is forced
 abbrev pub IsSame : {A : Type 0} → (Result A Status → Type 0) → Type 0
-IsSame {A = A} step = (r s : Result A Status) → IsDecided r → IsDecided s → step r → step s → status_of r ≡ status_of s
+IsSame {A = A} = IsSameBy {A = A} forced_answer
 
 pub once_same : {A : Type 0} (step : Result A Status → Type 0) → IsOnce step → IsSame step
-once_same step one r s n m h k = ap status_of (one r s n m h k)
+once_same = once_same_by forced_answer
 
 pub and_then_same : {A B : Type 0} (first : Result A Status → Type 0) (next : A → Result B Status → Type 0) → IsOnce first → ((a : A) → IsSame (next a)) → IsSame (AndThen first next)
-and_then_same first next one two (Ok b) (Ok c) n m f g = refl
-and_then_same first next one two (Ok b) (Err t) n m f (inl g) = absurd (ok_err f.0 t (one (Ok f.0) (Err t) tt m f.1 g))
-and_then_same first next one two (Ok b) (Err t) n m f (inr g) =
-    two g.0 (Ok b) (Err t) n m (subst (λ a. next a (Ok b)) (ok_same f.0 g.0 (one (Ok f.0) (Ok g.0) tt tt f.1 g.1)) f.2) g.2
-and_then_same first next one two (Err s) (Ok c) n m (inl f) g = absurd (ok_err g.0 s (sym (one (Err s) (Ok g.0) n tt f g.1)))
-and_then_same first next one two (Err s) (Ok c) n m (inr f) g =
-    two g.0 (Err s) (Ok c) n m (subst (λ a. next a (Err s)) (ok_same f.0 g.0 (one (Ok f.0) (Ok g.0) tt tt f.1 g.1)) f.2) g.2
-and_then_same first next one two (Err s) (Err t) n m (inl f) (inl g) = once_same first one (Err s) (Err t) n m f g
-and_then_same first next one two (Err s) (Err t) n m (inl f) (inr g) = absurd (ok_err g.0 s (sym (one (Err s) (Ok g.0) n tt f g.1)))
-and_then_same first next one two (Err s) (Err t) n m (inr f) (inl g) = absurd (ok_err f.0 t (one (Ok f.0) (Err t) tt m f.1 g))
-and_then_same first next one two (Err s) (Err t) n m (inr f) (inr g) =
-    two g.0 (Err s) (Err t) n m (subst (λ a. next a (Err s)) (ok_same f.0 g.0 (one (Ok f.0) (Ok g.0) tt tt f.1 g.1)) f.2) g.2
+and_then_same = and_then_same_by forced_answer
 
 -- a step behind which only memory may be wanting
 pub and_then_sure : {A B : Type 0} (first : Result A Status → Type 0) (next : A → Result B Status → Type 0) → IsSame first → ((a : A) (s : Status) → next a (Err s) → s ≡ NoMemory) → IsSame (AndThen first next)

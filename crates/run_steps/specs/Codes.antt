@@ -7,7 +7,7 @@ use Rattle.plc_files.specs.declared.fault.PlcFault.{PlcFault}
 use Rattle.plc_files.specs.declared.fault.PlcFault.TheVariants as bind
 use Rattle.run_steps.specs.declared.status.LimitKind.TheVariants.{Facets, Corners, Weight}
 use Rattle.run_steps.specs.declared.status.Status.{Status}
-use Rattle.run_steps.specs.declared.status.Status.TheVariants.{Done, Usage, Missing, ReadFault, BadText, Limit, Flat, NotFlat, SegmentsCross, Crossing, GridEnd, BudgetEnd, NoFill, NoMemory, WriteFault, Unsound}
+use Rattle.run_steps.specs.declared.status.Status.TheVariants.{Done, Usage, Missing, ReadFault, BadText, Limit, Flat, NotFlat, SegmentsCross, Crossing, GridEnd, BudgetEnd, NoFill, Empty, NoMemory, WriteFault, Unsound}
 use Rattle.weighted_mesh.specs.declared.regular_fault.RegularFault.{RegularFault}
 use Rattle.weighted_mesh.specs.declared.regular_fault.RegularFault.TheVariants as regular
 
@@ -28,6 +28,7 @@ code_of (NoFill anomaly) = 9
 code_of NoMemory = 10
 code_of (WriteFault name) = 11
 code_of (Unsound defect first) = 13
+code_of Empty = 14
 
 abbrev pub status_of_fault : MeshFault → Status
 status_of_fault fault.Flat = Flat

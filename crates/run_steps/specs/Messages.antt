@@ -16,7 +16,7 @@ use Rattle.run_steps.specs.declared.numbering.Numbering.{Numbering}
 use Rattle.run_steps.specs.declared.status.LimitKind.{LimitKind}
 use Rattle.run_steps.specs.declared.status.LimitKind.TheVariants.{Bytes, Points, MeshPoints, Facets, Corners, Grid, Weight}
 use Rattle.run_steps.specs.declared.status.Status.{Status}
-use Rattle.run_steps.specs.declared.status.Status.TheVariants.{Done, Usage, Missing, ReadFault, BadText, Limit, Flat, NotFlat, SegmentsCross, Crossing, GridEnd, BudgetEnd, NoFill, NoMemory, WriteFault, Unsound}
+use Rattle.run_steps.specs.declared.status.Status.TheVariants.{Done, Usage, Missing, ReadFault, BadText, Limit, Flat, NotFlat, SegmentsCross, Crossing, GridEnd, BudgetEnd, NoFill, Empty, NoMemory, WriteFault, Unsound}
 
 -- ---- parts of a line
 
@@ -86,6 +86,7 @@ message_of program by (GridEnd piece) = line program (codes "segment" ++ ends_te
 message_of program by (BudgetEnd made piece) =
     line program (decimal made ++ codes " splits used, segment" ++ ends_text by piece ++ codes " is missing")
 message_of program by (NoFill anomaly) = line program (anomaly_text by anomaly)
+message_of program by Empty = line program (codes "nothing is enclosed")
 message_of program by NoMemory = line program (codes "out of memory")
 message_of program by (WriteFault None) = line program (codes "summary: write failed")
 message_of program by (WriteFault (Some name)) = file_message program name (codes "write failed")

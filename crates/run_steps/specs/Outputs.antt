@@ -184,6 +184,7 @@ pub record AreFirstOutputsOf (options : Options) (mesh : Meshed) (outputs : Outp
   pub vtk_is : outputs.texts.vtk ≡ vtk_file options mesh marked
   pub msh_is : outputs.texts.msh ≡ msh_file options mesh marked
   pub report_is : outputs.report ≡ report_of options mesh (length faces) (length sides)
+  pub count_is : outputs.tetrahedra ≡ length mesh.tetrahedra
 
 -- ---- second order
 
@@ -230,6 +231,7 @@ pub record AreSecondOutputsOf (options : Options) (mesh : Meshed) (outputs : Out
   pub texts_are : outputs.texts ≡ second_texts options (first_of options mesh) (edge_file options mesh sides) (neigh_file options mesh)
       (second_in options.origin mesh marked sides)
   pub report_is : outputs.report ≡ report_of options mesh (length faces) (length sides)
+  pub count_is : outputs.tetrahedra ≡ length mesh.tetrahedra
 
 -- ---- the order that is asked for
 

@@ -44,6 +44,7 @@ pub fn message(
         Status::BudgetEnd { made, piece } => budget_message(alloc, program, by, *made, *piece),
         Status::NoFill { anomaly } => no_fill_message(alloc, program, by, *anomaly),
         Status::Unsound { defect, first } => unsound_message(alloc, program, *defect, *first),
+        Status::Empty => line(alloc, program, b"nothing is enclosed"),
         Status::NoMemory => line(alloc, program, b"out of memory"),
         Status::WriteFault { name: None } => line(alloc, program, b"summary: write failed"),
         Status::WriteFault { name: Some(name) } => file_message(

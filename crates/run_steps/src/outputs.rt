@@ -32,6 +32,8 @@ use tet_ports::{Bytes, NoMemory};
 pub struct Outputs {
     pub texts: Texts,
     pub report: Option<Report>,
+    /// The number of tetrahedra of the mesh; 0 where there is no mesh.
+    pub tetrahedra: usize,
 }
 
 /// The files of the points and of the tetrahedra, where they are asked for.
@@ -106,16 +108,18 @@ fn first_outputs(alloc: Global, options: &Options, made: &HulledMesh) -> Result<
     let sides = side_outputs(alloc, options, mesh)?;
     let rows = row_outputs(alloc, options, mesh)?;
     let report = report_of(alloc, options, mesh, faces.count, sides.count);
-    Ok(put_together(rows, faces, sides, report))
+    let tetrahedra = mesh.tetrahedra.len();
+    Ok(put_together(rows, faces, sides, report, tetrahedra))
 }
 
 /// Collects the files of the points, the tetrahedra, the faces and the edges that are asked for,
-/// and the summary.
+/// the summary and the number of tetrahedra.
 fn put_together(
     rows: RowOutputs,
     faces: FaceOutputs,
     sides: SideOutputs,
     report: Option<Report>,
+    tetrahedra: usize,
 ) -> Outputs
     ensures { result ≡ record {
       texts = record {
@@ -128,6 +132,7 @@ fn put_together(
         msh = faces.files.msh;
       };
       report = report;
+      tetrahedra = tetrahedra;
     } }
 {
     let FaceFiles { face, vtk, msh } = faces.files;
@@ -140,7 +145,11 @@ fn put_together(
         vtk,
         msh,
     };
-    Outputs { texts, report }
+    Outputs {
+        texts,
+        report,
+        tetrahedra,
+    }
 }
 
 /// The files of the points and of the tetrahedra, where they are asked for.

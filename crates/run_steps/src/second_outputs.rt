@@ -48,7 +48,12 @@ pub(crate) fn second_outputs(
         edge,
         neigh,
     )?;
-    Ok(Outputs { texts, report })
+    let tetrahedra = mesh.tetrahedra.len();
+    Ok(Outputs {
+        texts,
+        report,
+        tetrahedra,
+    })
 }
 
 /// The files of a mesh of second order that the options ask for, and with them those of edges and

@@ -85,6 +85,8 @@ pub enum Status {
     /// The mesh that is checked has a defect; the first one. Its files number points, rows and
     /// faces from `first` on.
     Unsound { defect: Defect, first: u32 },
+    /// The mesh has no tetrahedron: nothing is enclosed, or hole points carve all of it.
+    Empty,
     /// Out of memory.
     NoMemory,
     /// The folder failed in a store, or the sink of the summary, which has no name.
@@ -116,6 +118,7 @@ impl Status {
             Status::NoMemory => 10,
             Status::WriteFault { .. } => 11,
             Status::Unsound { .. } => 13,
+            Status::Empty => 14,
         }
     }
 }

@@ -13,18 +13,18 @@ use Rattle.tetfit_run.specs.declared.request.Request.{Request}
 use Rattle.tetfit_run.specs.declared.request.Request.TheVariants.{Page, Version, Mesh}
 use Rattle.tetfit_run.specs.declared.wanted.Wanted.{Wanted}
 use Rattle.run_steps.proofs.Once.{IsTold, bounded_once, fetch_once, input_once, meshed_same, nodes_once, text_once}
-use Rattle.run_steps.proofs.Steps.{IsDecided, IsOnce, IsSame, and_then_once, and_then_same, gives_once, status_of}
+use Rattle.run_steps.proofs.Steps.{IsDecided, IsOnce, IsSameBy, and_then_once, and_then_same_by, gives_once, status_by, status_of}
 use Rattle.run_steps.specs.Reading.{BoundedAnswer, FetchAnswer, NodesAnswer, TextAnswer, complex_file}
 use Rattle.tet_ports.specs.Seen.{FolderSeen, SinkSeen}
 use Rattle.run_steps.specs.Steps.{AndThen, Gives, forced_answer}
 use Rattle.run_steps.specs.declared.input.Input.{Input}
 use Rattle.run_steps.specs.declared.outputs.Outputs.{Outputs}
 use Rattle.run_steps.specs.declared.status.Status.{Status}
-use Rattle.run_steps.specs.declared.status.Status.TheVariants.{Usage, NoFill, NoMemory}
+use Rattle.run_steps.specs.declared.status.Status.TheVariants.{Usage, Empty, NoFill, NoMemory}
 use Rattle.tet_ports.specs.Files.{Files}
-use Rattle.tetgen_run.proofs.Endings.{answers_same}
+use Rattle.tetgen_run.proofs.Endings.{answers_same_by}
 use Rattle.tetfit_run.specs.Outputs.{FitWordsAnswer, IsFitUsage, IsFittedTo, MadeBy, OutputsOfFit, Says, fit_limits, wanted_from}
-use Rattle.tetfit_run.specs.Run.{IsFitAnswer, IsFitComplete}
+use Rattle.tetfit_run.specs.Run.{IsFitAnswer, IsFitComplete, meshed_answer}
 
 -- ---- the words
 
@@ -105,19 +105,24 @@ fits_same options input m n a b c d h k = go (less_or_more m n)
     go (inr (inl e)) = (e, meshed_same fit_limits (at_decimals n options) (tried (at_decimals n options) input) a b c d (subst (λ i. IsFitted fit_limits options input i a) e h).answer k.answer)
     go (inr (inr l)) = absurd (none_finer options input n m b a l c k h)
 
+-- the status of an answer as it is read
+abbrev read_status : Status → Status
+read_status s = forced_answer (meshed_answer s)
+
 -- what is fitted, before the summary tells its decimals
 record Fit (options : Options) (input : Input) (r : Result Outputs Status) : Type 0 where
   m : ℕ
   made : Result Outputs Status
   decided : IsDecided made
   fitted : IsFitted fit_limits options input m made
-  is : status_of r ≡ status_of made
+  is : status_by read_status r ≡ status_of made
 
 fit_of : (wanted : Wanted) (input : Input) (r : Result Outputs Status) → IsDecided r → IsFittedTo wanted input r → Fit wanted.options input r
 fit_of wanted input (Ok outputs) d h = record { m = h.0; made = Ok h.1; decided = tt; fitted = h.2; is = refl }
+fit_of wanted input (Err Empty) d h = record { m = h.0; made = Ok h.1.made; decided = tt; fitted = h.1.fitted; is = refl }
 fit_of wanted input (Err s) d h = record { m = h.0; made = Err s; decided = d; fitted = h.1; is = refl }
 
-fitted_same : (wanted : Wanted) (input : Input) → IsSame (IsFittedTo wanted input)
+fitted_same : (wanted : Wanted) (input : Input) → IsSameBy read_status (IsFittedTo wanted input)
 fitted_same wanted input r s c d h k =
     let a = fit_of wanted input r c h in
     let b = fit_of wanted input s d k in
@@ -125,18 +130,18 @@ fitted_same wanted input r s c d h k =
 
 -- ---- the run
 
-says_same : (text : List ℕ) → IsSame (Says text)
+says_same : (text : List ℕ) → IsSameBy read_status (Says text)
 says_same text (Ok a) (Ok b) c d h k = refl
 says_same text (Err s) r c d h k = absurd (c h)
 says_same text (Ok a) (Err t) c d h k = absurd (d k)
 
-made_same : (request : Request) (told : Files) (words : List (List ℕ)) (seen : FolderSeen) → IsTold told seen → IsSame (MadeBy request words seen)
+made_same : (request : Request) (told : Files) (words : List (List ℕ)) (seen : FolderSeen) → IsTold told seen → IsSameBy read_status (MadeBy request words seen)
 made_same Page told words seen h = says_same _
 made_same Version told words seen h = says_same _
 made_same Mesh told words seen h =
-    and_then_same (FitWordsAnswer (others words)) (λ wanted. AndThen (ModelAnswer fit_limits seen wanted.options) (λ input. IsFittedTo (wanted_from input wanted) input)) (words_once (others words))
-    (λ wanted. and_then_same (ModelAnswer fit_limits seen wanted.options) (λ input. IsFittedTo (wanted_from input wanted) input) (model_once told seen wanted.options h) (λ input. fitted_same (wanted_from input wanted) input))
+    and_then_same_by read_status (FitWordsAnswer (others words)) (λ wanted. AndThen (ModelAnswer fit_limits seen wanted.options) (λ input. IsFittedTo (wanted_from input wanted) input)) (words_once (others words))
+    (λ wanted. and_then_same_by read_status (ModelAnswer fit_limits seen wanted.options) (λ input. IsFittedTo (wanted_from input wanted) input) (model_once told seen wanted.options h) (λ input. fitted_same (wanted_from input wanted) input))
 
 pub answer_complete : (words : List (List ℕ)) (folder : FolderSeen) (out : SinkSeen) (s : Status) → IsFitAnswer words folder out s → IsFitComplete words folder out s
 answer_complete words folder out s h told e f n other m k =
-    answers_same (OutputsOfFit words folder) (made_same (request_of words) told words folder (record { files = e; no_fault = f.0 })) folder out f s other n m h k
+    answers_same_by read_status (OutputsOfFit words folder) refl (made_same (request_of words) told words folder (record { files = e; no_fault = f.0 })) folder out f s other n m h k

@@ -6,10 +6,10 @@ use Rattle.command_words.specs.declared.fault.WordsFault.TheVariants.{Usage as M
 use Rattle.command_words.specs.declared.options.Options.{Options}
 use Rattle.tetfit_run.proofs.Models.{model_has, model_wider}
 use Rattle.tetgen_run.proofs.OnGrid.{made_on_grid}
-use Rattle.tetfit_run.specs.Hints.{IsHint, IsHintBy}
+use Rattle.tetfit_run.specs.Hints.{IsHint, IsHintBy, moved_text}
 use Rattle.tetfit_run.specs.Models.{IsStatedBy, ModelAnswer}
 use Rattle.tetfit_run.specs.declared.model.Model.{Model}
-use Rattle.tetfit_run.specs.Opening.{TellsOpening}
+use Rattle.tetfit_run.specs.Opening.{is_empty}
 use Rattle.tetfit_run.specs.Trying.{IsFitted, IsNumbered, IsRefused, at_decimals}
 use Rattle.tetfit_run.specs.declared.fitting.Refused.{Refused as Unfit}
 use Rattle.node_files.specs.declared.limits.Limits.{Limits}
@@ -27,18 +27,17 @@ use Rattle.run_steps.specs.declared.numbering.Numbering.{Numbering}
 use Rattle.run_steps.specs.declared.outputs.Outputs.{Outputs}
 use Rattle.run_steps.specs.declared.status.LimitKind.TheVariants.{Grid}
 use Rattle.run_steps.specs.declared.status.Status.{Status}
-use Rattle.run_steps.specs.declared.status.Status.TheVariants.{Usage, Limit, Flat, NoMemory}
-use Rattle.tet_ports.specs.declared.NoMemory.{NoMemory as MemoryLack}
+use Rattle.run_steps.specs.declared.status.Status.TheVariants.{Usage, Empty, Limit, Flat, NoMemory}
 use Rattle.tetgen_run.proofs.Endings.{NumbersPoints, Refuses}
-use Rattle.tetgen_run.proofs.Refusals.{IsRefusal, IsSilent, not_true}
+use Rattle.tetgen_run.proofs.Refusals.{IsRefusal, IsSilent, not_true, step_refuses}
 use Rattle.tetgen_run.proofs.Runs.{bound_silent, mesh_by, meshed_refuses}
 use Rattle.tetgen_run.specs.Ends.{EndsWith, IsToldAs, StopsSo, answer_of}
 use Rattle.tetgen_run.specs.Stops.{stop_of_words}
 use Rattle.tetgen_run.specs.declared.stop.Stop.{Stop}
 use Rattle.tetgen_run.specs.declared.stop.Stop.TheVariants.{Refused, Unwritten, Unsummed, NoMemory as Wanting}
-use Rattle.tetfit_run.specs.Outputs.{FitWordsAnswer, IsFinalBy, IsFitUsage, IsFittedTo, IsMore, IsMoreBy, MadeBy, OutputsOfFit, OutputsOfModel, OutputsOfWanted, fit_limits, outputs_at, wanted_from}
+use Rattle.tetfit_run.specs.Outputs.{FitWordsAnswer, IsFinalBy, IsFitUsage, IsFittedTo, MadeBy, OutputsOfFit, OutputsOfModel, OutputsOfWanted, fit_limits, outputs_at, wanted_from}
 use Rattle.tetfit_run.specs.Measured.{origin_in, tried, with_origin}
-use Rattle.tetfit_run.specs.Run.{IsAskedBy, IsFinalMesh, IsKnown, IsKnownOf, IsMeshOfModel, IsFitNumbering, IsNumberingOf, IsTriedOf, IsUnfitted, TellsUnnamed, options_from}
+use Rattle.tetfit_run.specs.Run.{IsAskedBy, IsFinalMesh, IsKnown, IsKnownOf, IsMeshOfModel, IsFitNumbering, IsNumberingOf, IsTriedOf, IsUnfitted, TellsEmpty, TellsUnnamed, options_from}
 
 -- ---- answers
 
@@ -64,7 +63,8 @@ model_silent : (folder : FolderSeen) (options : Options) (s : Status) → ModelA
 model_silent = model_has IsSilent (λ name. refl) (λ name. refl) (λ name fault. refl) (λ name most. refl) refl fit_limits
 
 fitted_refuses : (wanted : Wanted) (input : Input) (s : Status) → IsFittedTo wanted input (Err s) → IsRefusal s
-fitted_refuses wanted input s h = meshed_refuses fit_limits (at_decimals h.0 wanted.options) (tried (at_decimals h.0 wanted.options) input) s h.1.answer
+fitted_refuses wanted input Empty h = tt
+fitted_refuses wanted input s h = step_refuses s (meshed_refuses fit_limits (at_decimals h.0 wanted.options) (tried (at_decimals h.0 wanted.options) input) s h.1.answer)
 
 outputs_refuse : (words : List (List ℕ)) (folder : FolderSeen) (s : Status) → OutputsOfModel words folder (Err s) → IsRefusal s
 outputs_refuse words folder =
@@ -104,6 +104,7 @@ numbered folder options model hint m s (Some by) r f n h =
 abbrev HasNoLine : Status → Type 0
 HasNoLine (Limit (Grid line)) = ⊥
 HasNoLine Flat = ⊥
+HasNoLine Empty = ⊥
 HasNoLine status = Unit {0}
 
 -- no reading of a model is refused for one
@@ -114,6 +115,7 @@ model_no_line = model_has HasNoLine (λ name. tt) (λ name. tt) (λ name fault. 
 no_line : (folder : FolderSeen) (options : Options) (hint : List ℕ) (s : Status) → HasNoLine s → TellsUnnamed options folder hint s
 no_line folder options hint (Limit (Grid line)) h = absurd h
 no_line folder options hint Flat h = absurd h
+no_line folder options hint Empty h = absurd h
 no_line folder options hint s h = tt
 
 unnamed : (folder : FolderSeen) (options : Options) (model : Model) (hint : List ℕ) (m : ℕ) (s : Status) (by : Option Numbering) → ModelAnswer fit_limits folder options (Ok model.input) → IsStatedBy folder options model.stated
@@ -123,14 +125,31 @@ unnamed folder options model hint m (Limit (Grid line)) None r w f n h = (model.
 unnamed folder options model hint m (Limit (Grid line)) (Some by) r w f n h = absurd (made_on_grid (at_decimals m (with_origin model.input options)) n.0 (Limit (Grid line)) n.2)
 unnamed folder options model hint m Flat None r w f n h = absurd n
 unnamed folder options model hint m Flat (Some by) r w f n h = (model.input, r, m, f, h)
+unnamed folder options model hint m Empty by r w f n h = absurd (meshed_refuses fit_limits (at_decimals m (with_origin model.input options)) (tried (at_decimals m (with_origin model.input options)) model.input) Empty f.answer)
 unnamed folder options model hint m s by r w f n h = tt
 
 -- the refusal of what is fitted, with what more is told of it
+unfitted_by : (options : Options) (model : Model) (m : ℕ) (s : Status) (by : Option Numbering) (hint : List ℕ) → IsFitted fit_limits options model.input m (Err s) → IsNumbered fit_limits (at_decimals m options) model.input s by
+    → IsHint fit_limits model.stated (at_decimals m options) model.input by s hint → IsUnfitted options model hint (Refused s by)
+unfitted_by options model m Empty by hint f n h = absurd (meshed_refuses fit_limits (at_decimals m options) (tried (at_decimals m options) model.input) Empty f.answer)
+unfitted_by options model m s by hint f n h = (m, f, n, h)
+
 pub unfitted_is : (options : Options) (model : Model) (limits other : Limits) (refused : Unfit) (hint : List ℕ) → limits ≡ fit_limits → other ≡ fit_limits → IsRefused limits options model.input refused
     → IsHint other model.stated (at_decimals refused.decimals options) model.input refused.end.numbering refused.end.status hint → IsUnfitted options model hint (Refused refused.end.status refused.end.numbering)
 unfitted_is options model limits other refused hint e f r h =
     let k = subst (λ l. IsRefused l options model.input refused) e r in
-    (refused.decimals, k.0, k.1, subst (λ l. IsHint l model.stated (at_decimals refused.decimals options) model.input refused.end.numbering refused.end.status hint) f h)
+    unfitted_by options model refused.decimals refused.end.status refused.end.numbering hint k.0 k.1
+    (subst (λ l. IsHint l model.stated (at_decimals refused.decimals options) model.input refused.end.numbering refused.end.status hint) f h)
+
+-- the refusal of a mesh without a tetrahedron
+pub emptied : (options : Options) (model : Model) (limits : Limits) (m : ℕ) (made : Outputs) (hint : List ℕ) (test : Bool) (stop : Stop) → limits ≡ fit_limits → IsFitted limits options model.input m (Ok made)
+    → test ≡ is_empty made → test ≡ true → TellsEmpty options model.input m hint stop → IsUnfitted options model hint stop
+emptied options model limits m made hint test (Refused Empty by) l f e t h =
+    (m, record { made = made; fitted = subst (λ q. IsFitted q options model.input m (Ok made)) l f; empty = sym e ∙ t }, h)
+emptied options model limits m made hint test (Refused s by) l f e t h = absurd h
+emptied options model limits m made hint test (Unwritten text) l f e t h = absurd h
+emptied options model limits m made hint test Unsummed l f e t h = absurd h
+emptied options model limits m made hint test Wanting l f e t h = tt
 
 -- where there is no model
 pub model_stops : (folder : FolderSeen) (wanted : Wanted) (hint : List ℕ) (s : Status) → ModelAnswer fit_limits folder wanted.options (Err s)
@@ -142,6 +161,8 @@ model_stops folder wanted hint s r =
 -- where it has no mesh
 pub unfitted_stops : (folder : FolderSeen) (wanted : Wanted) (model : Model) (hint : List ℕ) (stop : Stop) → ModelAnswer fit_limits folder wanted.options (Ok model.input) → IsStatedBy folder wanted.options model.stated
     → IsUnfitted (with_origin model.input wanted.options) model hint stop → StopsSo (OutputsOfWanted wanted folder) (IsKnownOf wanted.options folder hint) stop
+unfitted_stops folder wanted model hint (Refused Empty by) r w h =
+    (inr (model.input, r, (h.0, h.1)), (numbers_of wanted.options folder hint Empty by refl, (model.input, r, h.0, h.1, h.2)))
 unfitted_stops folder wanted model hint (Refused s by) r w h =
     let options = wanted.options in
     (inr (model.input, r, (h.0, h.1)), (numbered folder options model hint h.0 s by r h.1 h.2 h.3, unnamed folder options model hint h.0 s by r w h.1 h.2 h.3))
@@ -190,21 +211,11 @@ pub wanted_made : (words : List (List ℕ)) (folder : FolderSeen) (wanted : Want
     → OutputsOfModel words folder (Ok outputs)
 wanted_made words folder wanted outputs w h = (wanted, w, h)
 
--- ---- what more is told
+-- ---- what is fitted
 
--- where there is no tetrahedron
-pub more_told : (limits : Limits) (options : Options) (input : Input) (m : ℕ) (none test : Bool) (r : Result (List ℕ) MemoryLack) → limits ≡ fit_limits → test ≡ none → test ≡ true
-    → IfOk r (TellsOpening limits (at_decimals m options) input) → IfOk r (IsMoreBy none options input m)
-more_told limits options input m none test r l n e told =
-    subst (λ b. IfOk r (IsMoreBy b options input m)) (sym e ∙ n) (subst (λ q. IfOk r (TellsOpening q (at_decimals m options) input)) l told)
-
--- and where there are some
-pub no_more : (options : Options) (input : Input) (m : ℕ) (none test : Bool) (more : List ℕ) → test ≡ none → test ≡ false → more ≡ [] → IsMoreBy none options input m more
-no_more options input m none test more n e is = subst (λ b. IsMoreBy b options input m more) (sym e ∙ n) is
-
-pub fitted_told : (wanted : Wanted) (input : Input) (m n : ℕ) (made final : Outputs) (more : List ℕ) → IsFitted fit_limits wanted.options input m (Ok made)
-    → IsFinalBy wanted.goal wanted.options input m made n final → IsMore wanted.options input n final more → IsFittedTo wanted input (Ok (outputs_at n more final))
-fitted_told wanted input m n made final more h f k = (m, made, h, n, final, f, more, k, refl)
+pub fitted_told : (wanted : Wanted) (input : Input) (m n : ℕ) (made final : Outputs) (more : List ℕ) → IsFitted fit_limits wanted.options input m (Ok made) → is_empty made ≡ false
+    → IsFinalBy wanted.goal wanted.options input m made n final → more ≡ moved_text n input.nodes.decimals → IsFittedTo wanted input (Ok (outputs_at n more final))
+fitted_told wanted input m n made final more h some f k = (m, made, h, some, n, final, f, ap (λ t. outputs_at n t final) k)
 
 -- ---- the mesh
 
@@ -225,20 +236,21 @@ model_mesh words folder outputs h =
     let f = h.2.2 in
     let read = subst (λ (q : Wanted). ModelAnswer fit_limits folder q.options (Ok input)) e h.2.1 in
     let fitted = subst (λ (q : Wanted). IsFitted fit_limits (with_origin input q.options) input f.0 (Ok f.1)) e f.2 in
-    let last = subst (λ (q : Wanted). IsFinalBy q.goal (with_origin input q.options) input f.0 f.1 f.3 f.4) e f.5 in
-    let told = subst (λ (q : Wanted). IsMore (with_origin input q.options) input f.3 f.4 f.6) e f.7 in
+    let last = subst (λ (q : Wanted). IsFinalBy q.goal (with_origin input q.options) input f.0 f.1 f.4 f.5) e f.6 in
+    let more = moved_text f.4 input.nodes.decimals in
     let at = at_decimals f.0 (with_origin input o) in record {
       origin = origin_in input;
       decimals = f.0;
       made = f.1;
-      final_decimals = f.3;
-      final = f.4;
-      more = f.6;
+      final_decimals = f.4;
+      final = f.5;
+      more = more;
+      some = f.3;
       mesh = mesh_by fit_limits at (fit_fault words ≡ None) (λ placed. (i : Input) × IsTriedOf at words folder i placed
-          × IsFitted fit_limits (with_origin input o) i f.0 (Ok f.1) × IsMore (with_origin input o) i f.3 f.4 f.6)
-          (tried at input) f.1 h.1.0 (input, (read, refl, refl), fitted, told) fitted.answer;
-      refined = final_mesh (fit_goal words) words folder input f.0 f.3 f.1 f.4 h.1.0 read last;
-      outputs_are = f.8;
+          × IsFitted fit_limits (with_origin input o) i f.0 (Ok f.1) × (more ≡ moved_text f.4 i.nodes.decimals))
+          (tried at input) f.1 h.1.0 (input, (read, refl, refl), fitted, refl) fitted.answer;
+      refined = final_mesh (fit_goal words) words folder input f.0 f.4 f.1 f.5 h.1.0 read last;
+      outputs_are = f.7;
     }
 
 asked_by : (request : Request) (words : List (List ℕ)) (folder : FolderSeen) (outputs : Outputs) → MadeBy request words folder (Ok outputs) → IsAskedBy request words folder outputs

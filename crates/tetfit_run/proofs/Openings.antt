@@ -1,4 +1,4 @@
--- What is told of facets that enclose nothing.
+-- What is told of a model whose mesh has no tetrahedron.
 use Rattle.std.proofs.Common.{◌≡◌, Bool, true, false, List, [], ℕ, Result, Ok, Err, ap, sym, ◌∙◌, subst, cond}
 use Rattle.std.specs.Prelude.{IfOk}
 use Rattle.std.proofs.lemmas.List.Elements.{All-nil}
@@ -16,15 +16,15 @@ use Rattle.std.specs.Prelude.{pos, ◌<ℤ◌}
 use Rattle.tet_ports.specs.declared.NoMemory.{NoMemory}
 use Rattle.tetfit_run.specs.Holes.{without_holes, without_hole_points}
 use Rattle.tetfit_run.specs.Measured.{BoundTried}
-use Rattle.tetfit_run.specs.Opening.{carved_line, has_holes, surface_line, tells_none, TellsCarved, TellsCarvedBy, TellsOpening, TellsOpeningBy, TellsOpeningIf}
+use Rattle.tetfit_run.specs.Opening.{carved_line, has_holes, is_empty, surface_line, TellsCarved, TellsCarvedBy, TellsOpening, TellsOpeningBy, TellsOpeningIf}
 use Rattle.tetfit_run.specs.Trying.{MadeAnswer}
 
 -- ---- by the mesh without hole points
 
-pub none_told : (surface : List ℕ) (outputs : Outputs) (test : Bool) → test ≡ tells_none outputs.report → test ≡ true → TellsCarved surface (Ok outputs) surface
+pub none_told : (surface : List ℕ) (outputs : Outputs) (test : Bool) → test ≡ is_empty outputs → test ≡ true → TellsCarved surface (Ok outputs) surface
 none_told surface outputs test e t = ap (λ b. cond b surface carved_line) (sym t ∙ e)
 
-pub some_told : (surface : List ℕ) (outputs : Outputs) (test : Bool) (r : Result (List ℕ) NoMemory) → test ≡ tells_none outputs.report → test ≡ false → IfOk r (λ line. line ≡ carved_line) → IfOk r (TellsCarved surface (Ok outputs))
+pub some_told : (surface : List ℕ) (outputs : Outputs) (test : Bool) (r : Result (List ℕ) NoMemory) → test ≡ is_empty outputs → test ≡ false → IfOk r (λ line. line ≡ carved_line) → IfOk r (TellsCarved surface (Ok outputs))
 some_told surface outputs test (Ok line) e f is = is ∙ ap (λ b. cond b surface carved_line) (sym f ∙ e)
 some_told surface outputs test (Err lack) e f is = is
 

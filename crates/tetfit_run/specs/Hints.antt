@@ -1,5 +1,5 @@
 -- The lines that follow the message on a refused model.
-use Rattle.std.specs.Prelude.{◌≡◌, ℕ, zero, suc, ◌+◌, ◌-◌, min, max, nat_lt, nat_le, ◌==◌, ◌&&◌, Bool, length, position, drop, find, slice_get, slice_index, List, [], ◌++◌, codes, Option, Some, None, Ok, Err, if◌then◌else◌}
+use Rattle.std.specs.Prelude.{◌≡◌, ℕ, zero, suc, ◌+◌, ◌-◌, min, max, nat_lt, nat_le, ◌==◌, ◌&&◌, Bool, false, length, position, drop, find, slice_get, slice_index, List, [], ◌++◌, codes, Option, Some, None, Ok, Err, if◌then◌else◌}
 use Rattle.std.specs.Fmt.{decimal}
 use Rattle.std.specs.List.{list_any}
 use Rattle.std.specs.Option.{option_map_or}
@@ -20,7 +20,7 @@ use Rattle.run_steps.specs.declared.numbering.Numbering.{Numbering}
 use Rattle.run_steps.specs.declared.status.LimitKind.TheVariants.{Grid}
 use Rattle.run_steps.specs.declared.status.Status.{Status}
 use Rattle.run_steps.specs.declared.status.Status.TheVariants.{Limit, Flat, NotFlat, SegmentsCross, Crossing, GridEnd, BudgetEnd}
-use Rattle.tet_text.specs.Printing.{decimal_text}
+use Rattle.tet_text.specs.Printing.{decimal_text, sign_text, size_text}
 use Rattle.tetfit_run.specs.Measured.{BoundTried, MeshedTried}
 use Rattle.tetfit_run.specs.declared.model.Stated.{Stated}
 use Rattle.tetfit_run.specs.declared.model.Stated.TheVariants.{Lines, Facets}
@@ -140,6 +140,18 @@ rounded_text (Some m) most = if nat_lt m most then rounded_line m most else []
 -- the line where the points of the file have more decimals than the options
 abbrev pub rounding_text : Options → List DecimalPoint → List ℕ
 rounding_text options points = rounded_text options.decimals (most_decimals points)
+
+-- half a unit of the last of m decimals
+unfoldable pub half_unit : ℕ → List ℕ
+half_unit m = sign_text false ++ size_text 5 (m + 1)
+
+-- the line that coordinates moved by at most so much
+abbrev pub moved_line : ℕ → List ℕ
+moved_line m = codes "tetfit: rounding moved each coordinate by at most " ++ half_unit m ++ codes "\n"
+
+-- the line where the points of the file have more than m decimals
+abbrev pub moved_text : ℕ → List DecimalPoint → List ℕ
+moved_text m points = if nat_lt m (most_decimals points) then moved_line m else []
 
 -- ---- the lines
 

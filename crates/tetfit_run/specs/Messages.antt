@@ -6,7 +6,7 @@ use Rattle.run_steps.specs.declared.numbering.Numbering.{Numbering}
 use Rattle.run_steps.specs.declared.status.LimitKind.{LimitKind}
 use Rattle.run_steps.specs.declared.status.LimitKind.TheVariants.{Corners, Grid}
 use Rattle.run_steps.specs.declared.status.Status.{Status}
-use Rattle.run_steps.specs.declared.status.Status.TheVariants.{Usage, Missing, Limit, Flat, NotFlat, SegmentsCross, Crossing, GridEnd, BudgetEnd, NoFill}
+use Rattle.run_steps.specs.declared.status.Status.TheVariants.{Usage, Missing, Limit, Empty, Flat, NotFlat, SegmentsCross, Crossing, GridEnd, BudgetEnd, NoFill}
 
 -- the beginning of each line
 abbrev pub tetfit_name : List ℕ
@@ -43,10 +43,11 @@ line_of words by (Usage word place) = refused_line words word place
 line_of words by (Limit (Grid line)) = []
 line_of words by status = message_of tetfit_name by status
 
--- lines on the model follow: on a segment, on crossing parts, on a point off the grid, or on rounded coordinates
+-- lines on the model follow: on a segment, on crossing parts, on a point off the grid, on rounded coordinates, or on an open side
 abbrev pub has_hint : Status → Bool
 has_hint (Limit (Grid line)) = true
 has_hint Flat = true
+has_hint Empty = true
 has_hint (NotFlat facet four) = true
 has_hint (SegmentsCross one two) = true
 has_hint (Crossing one two) = true

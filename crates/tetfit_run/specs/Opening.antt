@@ -1,4 +1,4 @@
--- What is told of facets that enclose nothing: where the surface is open, or that hole points carve all of the mesh.
+-- What is told of a model whose mesh has no tetrahedron: where the surface is open, or that hole points carve all of it.
 use Rattle.std.specs.Prelude.{◌≡◌, ◌≢◌, ℕ, ◌+◌, ◌==◌, min, max, true, false, not, Bool, length, List, ◌++◌, codes, Option, Some, None, Result, Ok, Err, if◌then◌else◌}
 use Rattle.std.specs.Fmt.{decimal}
 use Rattle.command_words.specs.declared.options.Options.{Options}
@@ -9,8 +9,6 @@ use Rattle.run_steps.specs.declared.input.Input.{Input}
 use Rattle.run_steps.specs.declared.mesh.Bound.{Bound}
 use Rattle.run_steps.specs.declared.numbering.Numbering.{Numbering}
 use Rattle.run_steps.specs.declared.outputs.Outputs.{Outputs}
-use Rattle.run_steps.specs.declared.report.Report.{Report}
-use Rattle.run_steps.specs.declared.report.Report.TheVariants.{Mesh as MeshReport}
 use Rattle.run_steps.specs.declared.status.Status.{Status}
 use Rattle.run_steps.specs.declared.status.Status.TheVariants.{NoMemory}
 use Rattle.tetfit_run.specs.Hints.{number_text}
@@ -28,12 +26,12 @@ open_line by p k =
     codes "tetfit: the surface is open: only facet " ++ decimal (k + 1) ++ codes " has the side"
     ++ number_text by (min p.a p.b) ++ number_text by (max p.a p.b) ++ codes "\n"
 
-abbrev pub nothing_line : List ℕ
-nothing_line = codes "tetfit: the facets enclose nothing\n"
+abbrev pub shared_line : List ℕ
+shared_line = codes "tetfit: each side of a facet is shared, at least in part\n"
 
 -- the line names the open side, where there is one
 abbrev pub side_line : Numbering → Option FacetSide → List ℕ
-side_line by None = nothing_line
+side_line by None = shared_line
 side_line by (Some s) = open_line by s.side s.facet
 
 -- the line on a complex that encloses nothing
@@ -42,10 +40,9 @@ surface_line bound = side_line (numbering_of bound.table) (first_open bound.tabl
 
 -- ---- hole points
 
--- the summary reports 0 tetrahedra
-abbrev pub tells_none : Option Report → Bool
-tells_none (Some (MeshReport summary notes)) = summary.tetrahedra == 0
-tells_none report = false
+-- the mesh has no tetrahedron
+abbrev pub is_empty : Outputs → Bool
+is_empty outputs = outputs.tetrahedra == 0
 
 abbrev pub carved_line : List ℕ
 carved_line = codes "tetfit: hole points carve all of it\n"
@@ -59,7 +56,7 @@ has_holes bound = not (length bound.complex.holes == 0)
 -- The line where there are hole points, by the answer for the input without them: `surface` where its mesh has no tetrahedron either, and
 -- that hole points carve all of it where it has one. Where the input is refused without them, either may be
 abbrev pub TellsCarved : List ℕ → Result Outputs Status → List ℕ → Type 0
-TellsCarved surface (Ok outputs) line = line ≡ (if tells_none outputs.report then surface else carved_line)
+TellsCarved surface (Ok outputs) line = line ≡ (if is_empty outputs then surface else carved_line)
 TellsCarved surface (Err status) line = (status ≢ NoMemory) × (line ≡ either_line)
 
 -- the line on an input whose mesh has no tetrahedron, by whether there are hole points

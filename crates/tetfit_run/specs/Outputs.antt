@@ -1,10 +1,11 @@
 -- The requests that the words of `tetfit` make, and their outputs.
-use Rattle.std.specs.Prelude.{◌≡◌, ◌≤◌, ℕ, Bool, true, false, List, [], Option, Some, None, Result, Ok, Err}
+use Rattle.std.specs.Prelude.{◌≡◌, ◌≤◌, ℕ, true, false, List, Option, Some, None, Result, Ok, Err}
 use Rattle.std.specs.Option.{option_map}
 use Rattle.command_words.specs.declared.options.Options.{Options}
 use Rattle.tetfit_run.specs.Measured.{tried, with_origin}
 use Rattle.tetfit_run.specs.Models.{ModelAnswer}
-use Rattle.tetfit_run.specs.Opening.{TellsOpening, tells_none}
+use Rattle.tetfit_run.specs.Hints.{moved_text}
+use Rattle.tetfit_run.specs.Opening.{is_empty}
 use Rattle.tetfit_run.specs.Trying.{IsFitted, at_decimals}
 use Rattle.refining.specs.Outputs.{RefinedMeshed}
 use Rattle.refining.specs.declared.goal.Goal.{Goal}
@@ -21,7 +22,7 @@ use Rattle.run_steps.specs.declared.outputs.Outputs.{Outputs}
 use Rattle.run_steps.specs.declared.report.Report.{Report}
 use Rattle.run_steps.specs.declared.report.Report.TheVariants.{Mesh as MeshReport, Text}
 use Rattle.run_steps.specs.declared.status.Status.{Status}
-use Rattle.run_steps.specs.declared.status.Status.TheVariants.{Usage, NoMemory}
+use Rattle.run_steps.specs.declared.status.Status.TheVariants.{Usage, Empty, NoMemory}
 
 -- the limits of the program: 2^30 bytes of a file, 4,000,000 points and facets, 1,000,000 corners of a polygon, and coordinates up to 2^29
 -- in size
@@ -52,14 +53,6 @@ fitted_told decimals more (Text text) = Text text
 abbrev pub outputs_at : ℕ → List ℕ → Outputs → Outputs
 outputs_at decimals more outputs = record outputs { report = option_map (fitted_told decimals more) outputs.report }
 
--- where there is no tetrahedron the text says where the surface is open, that nothing is enclosed, or that hole points carve all of it
-abbrev pub IsMoreBy : Bool → Options → Input → ℕ → List ℕ → Type 0
-IsMoreBy true options input m more = TellsOpening fit_limits (at_decimals m options) input more
-IsMoreBy false options input m more = more ≡ []
-
-abbrev pub IsMore : Options → Input → ℕ → Outputs → List ℕ → Type 0
-IsMore options input m made more = IsMoreBy (tells_none made.report) options input m more
-
 -- The outputs in the end, with coordinates rounded to n decimals: those of the mesh that is fitted, at m decimals; or,
 -- where tetrahedra are bounded, those of a mesh with points behind those of the model, at so many or fewer
 abbrev pub IsFinalBy : Option Goal → Options → Input → ℕ → Outputs → ℕ → Outputs → Type 0
@@ -67,12 +60,20 @@ IsFinalBy None options input m made n final = (n ≡ m) × (final ≡ made)
 IsFinalBy (Some goal) options input m made n final =
     (n ≤ m) × RefinedMeshed goal fit_limits (at_decimals n options) (tried (at_decimals n options) input) (Ok final)
 
--- the outputs of an input, or its refusal, at as many decimals as the grid does not refuse
+-- the input is fitted at so many decimals, where its mesh has no tetrahedron
+pub record IsEmptyAt (options : Options) (input : Input) (decimals : ℕ) : Type 0 where
+  pub made : Outputs
+  pub fitted : IsFitted fit_limits options input decimals (Ok made)
+  pub empty : is_empty made ≡ true
+
+-- The outputs of an input, or its refusal, at as many decimals as the grid does not refuse; a mesh without a tetrahedron
+-- is refused. Behind the summary a line says by how much coordinates moved at most, where they were rounded
 abbrev pub IsFittedTo : Wanted → Input → Result Outputs Status → Type 0
 IsFittedTo wanted input (Ok outputs) =
-    (decimals : ℕ) × (made : Outputs) × IsFitted fit_limits wanted.options input decimals (Ok made)
+    (decimals : ℕ) × (made : Outputs) × IsFitted fit_limits wanted.options input decimals (Ok made) × (is_empty made ≡ false)
     × (n : ℕ) × (final : Outputs) × IsFinalBy wanted.goal wanted.options input decimals made n final
-    × (more : List ℕ) × IsMore wanted.options input n final more × (outputs ≡ outputs_at n more final)
+    × (outputs ≡ outputs_at n (moved_text n input.nodes.decimals) final)
+IsFittedTo wanted input (Err Empty) = (decimals : ℕ) × IsEmptyAt wanted.options input decimals
 IsFittedTo wanted input (Err status) = (decimals : ℕ) × IsFitted fit_limits wanted.options input decimals (Err status)
 
 -- what is wanted, with coordinates measured from the origin of the model
@@ -95,6 +96,7 @@ abbrev pub said : List ℕ → Outputs
 said text = record {
   texts = record { node = None; ele = None; face = None; edge = None; neigh = None; vtk = None; msh = None };
   report = Some (Text text);
+  tetrahedra = 0;
 }
 
 -- the text, or out of memory

@@ -1,7 +1,7 @@
 -- The status of a run of `tetfit`, the files that it leaves, and its messages.
-use Rattle.std.specs.Prelude.{◌≡◌, ◌≢◌, ◌≤◌, ℕ, IsTrue, List, Option, Some, None, Ok, Err}
+use Rattle.std.specs.Prelude.{◌≡◌, ◌≢◌, ◌≤◌, ℕ, IsTrue, false, List, Option, Some, None, Ok, Err}
 use Rattle.command_words.specs.declared.options.Options.{Options}
-use Rattle.tetfit_run.specs.Hints.{IsHint, IsHintBy, off_grid_text, rounding_text}
+use Rattle.tetfit_run.specs.Hints.{IsHint, IsHintBy, moved_text, off_grid_text, rounding_text}
 use Rattle.tetfit_run.specs.Measured.{BoundTried, origin_in, tried, with_origin}
 use Rattle.grid_coords.specs.declared.origin.WholePoint.{WholePoint}
 use Rattle.tetfit_run.specs.Models.{IsStatedBy, ModelAnswer}
@@ -24,26 +24,33 @@ use Rattle.run_steps.specs.declared.numbering.Numbering.{Numbering}
 use Rattle.run_steps.specs.declared.outputs.Outputs.{Outputs}
 use Rattle.run_steps.specs.declared.status.LimitKind.TheVariants.{Grid}
 use Rattle.run_steps.specs.declared.status.Status.{Status}
-use Rattle.run_steps.specs.declared.status.Status.TheVariants.{Limit, Flat, NoMemory}
+use Rattle.run_steps.specs.declared.status.Status.TheVariants.{Done, Empty, Limit, Flat, NoMemory}
 use Rattle.tet_ports.specs.Files.{Files}
 use Rattle.tetgen_run.specs.Ends.{AnswersBy, HasNoFault, LeavesBy, TellsBy, names_points}
 use Rattle.tetgen_run.specs.Run.{IsMeshBy}
 use Rattle.tetgen_run.specs.declared.stop.Stop.{Stop}
 use Rattle.tetgen_run.specs.declared.stop.Stop.TheVariants.{Refused, NoMemory as Wanting}
 use Rattle.tetfit_run.specs.Messages.{fit_message}
-use Rattle.tetfit_run.specs.Outputs.{IsMore, OutputsOfFit, fit_limits, outputs_at, said}
+use Rattle.tetfit_run.specs.Opening.{TellsOpening, is_empty}
+use Rattle.tetfit_run.specs.Outputs.{IsEmptyAt, OutputsOfFit, fit_limits, outputs_at, said}
 
 -- The cause of each answer. Done where there are outputs, and any other answer is the refusal of a step: of a mesh it is that of the run at
 -- some number of decimals, and at each greater number up to the first one that is tried the grid refuses
 abbrev pub IsFitAnswer : List (List ℕ) → FolderSeen → SinkSeen → Status → Type 0
 IsFitAnswer words folder = AnswersBy (OutputsOfFit words folder) folder
 
--- where contracts see the files, nothing failed and memory did not run out, each answer that has a cause is the answer,
--- except where two facets cross one tetrahedron, as in a run of `tetgen`
+-- Done, for the refusal of a mesh without a tetrahedron
+abbrev pub meshed_answer : Status → Status
+meshed_answer Empty = Done
+meshed_answer status = status
+
+-- Where contracts see the files, nothing failed and memory did not run out, each answer that has a cause is the answer,
+-- except where two facets cross one tetrahedron, as in a run of `tetgen`. Whether a mesh is empty is told by its cause
 abbrev pub IsFitComplete : List (List ℕ) → FolderSeen → SinkSeen → Status → Type 0
 IsFitComplete words folder out status =
     (told : Files) → folder.files_before ≡ Some told → HasNoFault folder out → status ≢ NoMemory
-    → (other : Status) → other ≢ NoMemory → IsFitAnswer words folder out other → forced_answer status ≡ forced_answer other
+    → (other : Status) → other ≢ NoMemory → IsFitAnswer words folder out other
+    → forced_answer (meshed_answer status) ≡ forced_answer (meshed_answer other)
 
 -- ---- what is left
 
@@ -67,7 +74,8 @@ IsFinalMesh (Some goal) options words folder m made n final = (n ≤ m)
 -- The outputs are those of one mesh of the model that the words name, at a number of decimals that their summary has:
 -- at each greater number of decimals, up to the first one that is tried, the grid refuses the model. Where a volume or a
 -- ratio is given, the mesh has points behind those of the model, perhaps at fewer decimals, and the summary has the
--- number of tetrahedra over each. Where the mesh has no tetrahedron the summary says where the surface is open
+-- number of tetrahedra over each. The mesh that is fitted has a tetrahedron. Where coordinates were rounded, a line behind the
+-- summary says by how much they moved at most
 pub record IsMeshOfModel (words : List (List ℕ)) (folder : FolderSeen) (outputs : Outputs) : Type 0 where
   pub origin : Option WholePoint
   pub decimals : ℕ
@@ -75,10 +83,11 @@ pub record IsMeshOfModel (words : List (List ℕ)) (folder : FolderSeen) (output
   pub final_decimals : ℕ
   pub final : Outputs
   pub more : List ℕ
+  pub some : is_empty made ≡ false
   pub mesh : IsMeshBy fit_limits (at_decimals decimals (options_from origin words)) (fit_fault words ≡ None)
       (λ at. (input : Input) × IsTriedOf (at_decimals decimals (options_from origin words)) words folder input at
       × IsFitted fit_limits (options_from origin words) input decimals (Ok made)
-      × IsMore (options_from origin words) input final_decimals final more) made
+      × (more ≡ moved_text final_decimals input.nodes.decimals)) made
   pub refined : IsFinalMesh (fit_goal words) (options_from origin words) words folder decimals made final_decimals final
   pub outputs_are : outputs ≡ outputs_at final_decimals more final
 
@@ -94,8 +103,16 @@ IsFitLeft words folder = LeavesBy (IsAskedBy (request_of words) words folder) fo
 
 -- ---- what is told
 
+-- the stop on a mesh without a tetrahedron at m decimals, and the line that says why it has none
+abbrev pub TellsEmpty : Options → Input → ℕ → List ℕ → Stop → Type 0
+TellsEmpty options input m hint (Refused Empty by) = TellsOpening fit_limits (at_decimals m options) input hint
+TellsEmpty options input m hint Wanting = Unit {0}
+TellsEmpty options input m hint stop = ⊥
+
 -- why a model that is fitted has no outputs, and the lines on the model that follow the message
 abbrev pub IsUnfitted : Options → Model → List ℕ → Stop → Type 0
+IsUnfitted options model hint (Refused Empty by) =
+    (m : ℕ) × IsEmptyAt options model.input m × TellsOpening fit_limits (at_decimals m options) model.input hint
 IsUnfitted options model hint (Refused status by) =
     (m : ℕ) × IsFitted fit_limits options model.input m (Err status)
     × IsNumbered fit_limits (at_decimals m options) model.input status by
@@ -119,7 +136,8 @@ IsFitNumbering words = IsNumberingOf (fit_options words)
 
 -- The lines that follow a message that prints no points. For a model off the grid, the first point that is off it with coordinates
 -- rounded to whole numbers is reported: its place in the file, by the line, or by the facet of a binary file, and its coordinates. For
--- points in one plane, that they were rounded, where they were
+-- points in one plane, that they were rounded, where they were. For a mesh without a tetrahedron, which side is open, that each side is
+-- shared, or that hole points carve all of it
 abbrev pub TellsUnnamed : Options → FolderSeen → List ℕ → Status → Type 0
 TellsUnnamed options folder hint (Limit (Grid line)) =
     (input : Input) × ModelAnswer fit_limits folder options (Ok input)
@@ -129,6 +147,10 @@ TellsUnnamed options folder hint Flat =
     (input : Input) × ModelAnswer fit_limits folder options (Ok input)
     × (m : ℕ) × IsFitted fit_limits (with_origin input options) input m (Err Flat)
     × (hint ≡ rounding_text (at_decimals m (with_origin input options)) input.nodes.decimals)
+TellsUnnamed options folder hint Empty =
+    (input : Input) × ModelAnswer fit_limits folder options (Ok input)
+    × (m : ℕ) × IsEmptyAt (with_origin input options) input m
+    × TellsOpening fit_limits (at_decimals m (with_origin input options)) input hint
 TellsUnnamed options folder hint status = Unit {0}
 
 -- both

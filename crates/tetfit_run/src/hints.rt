@@ -6,6 +6,7 @@ ghost use Rattle.grid_coords.specs.Origins.{IsNear};
 ghost use Rattle.node_files.specs.Limits.{AreIndexable};
 ghost use Rattle.run_steps.specs.Reading.{IsSound};
 ghost use Rattle.tetfit_run.specs.Hints.{hinted_facet_text, first_facet, grid_hint, parts_text};
+ghost use Rattle.tetfit_run.specs.Hints.{half_unit, moved_line, moved_text};
 ghost use Rattle.tetfit_run.specs.Hints.{rounded_line, rounded_text, rounding_text};
 ghost use Rattle.tetfit_run.specs.Hints.{segment_line, HasPoints, IsHint, IsHintBy, IsLineOf};
 ghost use Rattle.tetfit_run.specs.Hints.{IsMissing, TellsSegment};
@@ -29,6 +30,7 @@ use run_steps::{LimitKind, Numbering, Status};
 use simplex_meets::Part;
 use std::alloc::Global;
 use tet_ports::{Bytes, NoMemory};
+use tet_text::print_scaled;
 
 /// Appends the number of a facet, which counts from 1.
 fn append_facet(text: &mut Bytes, facet: Option<u32>) -> Result<(), NoMemory>
@@ -129,6 +131,39 @@ fn append_rounding(
         Some(decimals) => append_fewer(text, decimals, most_decimals(points)),
         None => Ok(()),
     }
+}
+
+/// Appends half a unit of the last of `decimals` decimals.
+#[tactic(auto, unfolding(crate::specs::Hints::half_unit))]
+fn append_half(text: &mut Bytes, decimals: u32) -> Result<(), NoMemory>
+    ensures { OnOk result (text.new ≡ text.old ++ half_unit decimals) }
+{
+    print_scaled(false, 5, u64::from(decimals) + 1, text)
+}
+
+/// Appends by how much rounding to `decimals` decimals moved a coordinate at most.
+fn append_moved(text: &mut Bytes, decimals: u32) -> Result<(), NoMemory>
+    ensures { OnOk result (text.new ≡ text.old ++ moved_line decimals) }
+{
+    text.append(b"tetfit: rounding moved each coordinate by at most ")?;
+    append_half(text, decimals)?;
+    text.append(b"\n")
+}
+
+/// The line that says by how much rounding to `decimals` decimals moved a coordinate at most, where
+/// a point of the file has more.
+pub(crate) fn moved_text(
+    alloc: Global,
+    decimals: u32,
+    points: &[DecimalPoint],
+) -> Result<Bytes, NoMemory>
+    ensures { IfOk result (λ lines. lines ≡ moved_text decimals points.now) }
+{
+    let mut text = Bytes::new(alloc);
+    if decimals < most_decimals(points) {
+        append_moved(&mut text, decimals)?;
+    }
+    Ok(text)
 }
 
 /// The line that coordinates were rounded, where they were.

@@ -100,8 +100,8 @@ fn line_of(
     }
 }
 
-/// Whether lines on the model follow: on a segment, on crossing parts, on a point off the grid, or
-/// on rounded coordinates.
+/// Whether lines on the model follow: on a segment, on crossing parts, on a point off the grid, on
+/// rounded coordinates, or on an open side.
 fn has_hint(status: &Status) -> bool
     ensures { result ≡ has_hint status.now }
 {
@@ -110,6 +110,7 @@ fn has_hint(status: &Status) -> bool
             what: LimitKind::Grid { line: _ },
         } => true,
         Status::Flat => true,
+        Status::Empty => true,
         Status::NotFlat { facet: _, four: _ } => true,
         Status::SegmentsCross { one: _, two: _ } => true,
         Status::Crossing { one: _, two: _ } => true,

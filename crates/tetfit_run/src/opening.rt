@@ -1,5 +1,5 @@
-//! The line on facets that enclose no solid: a side that no other facet covers, or that hole points
-//! carve all of the mesh.
+//! The line on a model whose mesh has no tetrahedron: a side that no other facet covers, or that
+//! hole points carve all of it.
 
 ghost use Rattle.std.specs.Prelude.{◌≡◌, ◌<◌, ◌^◌, length, IfOk};
 ghost use Rattle.node_files.specs.Limits.{AreIndexable};
@@ -7,8 +7,8 @@ ghost use Rattle.run_steps.specs.Meshing.{IsMeshableBound};
 ghost use Rattle.run_steps.specs.Numbering.{numbering_of};
 ghost use Rattle.run_steps.specs.Reading.{IsSound};
 ghost use Rattle.geo_laws.specs.Complex.{HasCornersOf};
-ghost use Rattle.tetfit_run.specs.Opening.{carved_line, either_line, has_holes, nothing_line, open_line};
-ghost use Rattle.tetfit_run.specs.Opening.{side_line, surface_line, tells_none};
+ghost use Rattle.tetfit_run.specs.Opening.{carved_line, shared_line, either_line, has_holes, is_empty};
+ghost use Rattle.tetfit_run.specs.Opening.{open_line, side_line, surface_line};
 ghost use Rattle.tetfit_run.specs.Opening.{TellsCarved, TellsCarvedBy, TellsOpening, TellsOpeningBy};
 ghost use Rattle.tetfit_run.specs.Trial.{AreInTriedRange};
 ghost use Rattle.tetfit_run.specs.Trying.{at_decimals};
@@ -22,16 +22,19 @@ use command_words::Options;
 use geo_laws::Piece;
 use mesh_check::append_number;
 use node_files::Limits;
-use run_steps::{Bound, Input, Numbering, Outputs, Report, Status, mesh_outputs, numbering_of};
+use run_steps::{Bound, Input, Numbering, Outputs, Status, mesh_outputs, numbering_of};
 use std::alloc::Global;
 use tet_ports::{Bytes, NoMemory};
 
 // ---- an open side
 
-fn nothing_line(alloc: Global) -> Result<Bytes, NoMemory>
-    ensures { IfOk result (λ line. line ≡ nothing_line) }
+fn shared_line(alloc: Global) -> Result<Bytes, NoMemory>
+    ensures { IfOk result (λ line. line ≡ shared_line) }
 {
-    Bytes::from_slice(alloc, b"tetfit: the facets enclose nothing\n")
+    Bytes::from_slice(
+        alloc,
+        b"tetfit: each side of a facet is shared, at least in part\n",
+    )
 }
 
 /// The line that names a facet and its side that no other facet covers.
@@ -53,12 +56,11 @@ fn side_line(alloc: Global, by: &Numbering, found: Option<FacetSide>) -> Result<
 {
     match found {
         Some(s) => open_line(alloc, by, s.side, s.facet),
-        None => nothing_line(alloc),
+        None => shared_line(alloc),
     }
 }
 
-/// The line on the first open side of a complex on its grid; where there is none, that the facets
-/// enclose nothing.
+/// The line on the first open side of a complex on its grid, or that there is none.
 fn surface_line(alloc: Global, bound: &Bound) -> Result<Bytes, NoMemory>
     requires listed { length bound.now.table.listed < 2 ^ 32 }
     requires corners { HasCornersOf bound.now.table.points bound.now.complex }
@@ -71,14 +73,11 @@ fn surface_line(alloc: Global, bound: &Bound) -> Result<Bytes, NoMemory>
 
 // ---- hole points
 
-/// Whether the summary reports 0 tetrahedra.
-pub(crate) fn tells_none(report: &Option<Report>) -> bool
-    ensures { result ≡ tells_none report.now }
+/// Whether the mesh has no tetrahedron.
+pub(crate) fn is_empty(outputs: &Outputs) -> bool
+    ensures { result ≡ is_empty outputs.now }
 {
-    match report {
-        Some(Report::Mesh { summary, notes: _ }) => summary.tetrahedra == 0,
-        _ => false,
-    }
+    outputs.tetrahedra == 0
 }
 
 fn carved_line(alloc: Global) -> Result<Bytes, NoMemory>
@@ -111,7 +110,7 @@ fn told_of(
 {
     match answer {
         Ok(outputs) => {
-            if tells_none(&outputs.report) {
+            if is_empty(&outputs) {
                 Ok(surface)
             } else {
                 carved_line(alloc)
@@ -154,8 +153,8 @@ fn opening_in(alloc: Global, options: &Options, bound: Bound) -> Result<Bytes, N
 
 /// The line on an input whose mesh has no tetrahedron, rounded to `decimals` decimals. Without hole
 /// points it names the first side, in the order of facets, polygons and corners, with which no side
-/// of another facet has more than one point in common; or, where there is none, it says that the
-/// facets enclose nothing. With hole points the input is meshed once more without them: where that
+/// of another facet has more than one point in common; or it says that there is none. With hole
+/// points the input is meshed once more without them: where that
 /// mesh has a tetrahedron they carve all of it, else the line is as without them. Out of memory
 /// also where the input can't be put on its grid again.
 pub fn opening_of(

@@ -1,6 +1,6 @@
 //! The outputs that the words of the command ask for.
 
-ghost use Rattle.std.specs.Prelude.{◌≡◌, ◌≤◌, ℕ, [], true, IfOk, IfErr, IfSome, Ok, Err, Some};
+ghost use Rattle.std.specs.Prelude.{◌≡◌, ◌≤◌, ℕ, [], true, false, IfOk, IfErr, IfSome, Ok, Err, Some};
 ghost use Rattle.command_words.specs.Meaning.{AreInRange};
 ghost use Rattle.command_words.specs.declared.fault.WordsFault.TheVariants.{Usage};
 ghost use Rattle.refining.specs.Goals.{IsFineGoal};
@@ -14,18 +14,19 @@ ghost use Rattle.run_steps.specs.Reading.{IsSound};
 ghost use Rattle.tet_ports.specs.Seen.{IsOnlyRead, folder_seen};
 ghost use Rattle.tetgen_run.specs.Ends.{StopsSo};
 ghost use Rattle.tetfit_run.specs.Outputs.{FitWordsAnswer, IsFinalBy, IsFittedTo, MadeBy};
-ghost use Rattle.tetfit_run.specs.Outputs.{IsMore, OutputsOfFit, OutputsOfWanted, Says, fit_limits};
+ghost use Rattle.tetfit_run.specs.Opening.{is_empty};
+ghost use Rattle.tetfit_run.specs.Outputs.{OutputsOfFit, OutputsOfWanted, Says, fit_limits};
 ghost use Rattle.tetfit_run.specs.Outputs.{fitted_told, outputs_at, said, wanted_from};
-ghost use Rattle.tetfit_run.specs.Run.{IsKnown, IsKnownOf, IsUnfitted};
+ghost use Rattle.tetfit_run.specs.Run.{IsKnown, IsKnownOf, IsUnfitted, TellsEmpty};
 ghost use Rattle.tetfit_run.specs.Stages.{SeesRounds};
 
 use crate::copies::with_origin;
 use crate::fitting::{Fitted, fit_input};
 use crate::grids::refined_decimals;
-use crate::hints::hint_of;
+use crate::hints::{hint_of, moved_text};
 use crate::limits::fit_limits;
 use crate::model::{Model, read_model};
-use crate::opening::{opening_of, tells_none};
+use crate::opening::{is_empty, opening_of};
 use crate::page::{PAGE, VERSION};
 use crate::refined::refined_at;
 use crate::request::{Request, other_words, request_of};
@@ -33,7 +34,7 @@ use crate::trying::Unfitted;
 use crate::wanted::{Wanted, read_wanted};
 use command_words::{Options, WordsFault};
 use refining::{Goal, Watch};
-use run_steps::{Input, Outputs, Report, Texts};
+use run_steps::{Input, Outputs, Report, Status, Texts};
 use std::alloc::Global;
 use tet_ports::{Bytes, Folder, NoMemory, Words};
 use tetgen_run::Stop;
@@ -56,7 +57,11 @@ fn said(alloc: Global, text: &[u8]) -> Result<Outputs, NoMemory>
         msh: None,
     };
     let report = Some(Report::Text(Bytes::from_slice(alloc, text)?));
-    Ok(Outputs { texts, report })
+    Ok(Outputs {
+        texts,
+        report,
+        tetrahedra: 0,
+    })
 }
 
 /// The report of a mesh with the number of decimals in its summary, and with lines behind it.
@@ -84,36 +89,22 @@ fn outputs_at(fitted: Fitted, more: Bytes) -> Outputs
     ensures { result ≡ outputs_at fitted.decimals more fitted.outputs }
 {
     let Fitted { decimals, outputs } = fitted;
-    let Outputs { texts, report } = outputs;
+    let Outputs {
+        texts,
+        report,
+        tetrahedra,
+    } = outputs;
     match report {
         None => Outputs {
             texts,
             report: None,
+            tetrahedra,
         },
         Some(report) => Outputs {
             texts,
             report: Some(fitted_told(report, decimals, more)),
+            tetrahedra,
         },
-    }
-}
-
-/// The line on facets that enclose nothing or whose mesh is carved whole, where the mesh has no
-/// tetrahedron.
-fn more_of(
-    alloc: Global,
-    options: &Options,
-    input: &Input,
-    fitted: &Fitted,
-) -> Result<Bytes, NoMemory>
-    requires input { IsSound input.now }
-    requires ranges { AreInTriedRange (at_decimals fitted.now.decimals options.now) }
-    ensures { IfOk result
-        (IsMore options.now input.now fitted.now.decimals fitted.now.outputs) }
-{
-    if tells_none(&fitted.outputs.report) {
-        opening_of(alloc, fit_limits(), options, input, fitted.decimals)
-    } else {
-        Ok(Bytes::new(alloc))
     }
 }
 
@@ -179,8 +170,8 @@ fn final_outputs<W: Watch>(
     }
 }
 
-/// The outputs of a fitted mesh, or of the refined one, with the line that says why where it has no
-/// tetrahedron.
+/// The outputs of a fitted mesh with tetrahedra, or of the refined one, with the line that says by
+/// how much rounding moved coordinates.
 fn told_outputs<W: Watch>(
     alloc: Global,
     wanted: &Wanted,
@@ -193,12 +184,63 @@ fn told_outputs<W: Watch>(
     requires refinable { IsRefinable wanted.now }
     requires fitted { IsFitted fit_limits wanted.now.options input.now fitted.decimals
         (Ok fitted.outputs) }
+    requires some { is_empty fitted.outputs ≡ false }
     ensures made { IfOk result (λ outputs. IsFittedTo wanted.now input.now (Ok outputs)) }
     ensures shown { SeesRounds W.shown watch.old watch.new }
 {
     let last = final_outputs(alloc, wanted, input, fitted, watch)?;
-    let more = more_of(alloc, &wanted.options, input, &last)?;
+    let more = moved_text(alloc, last.decimals, input.nodes.decimals.as_slice())?;
     Ok(outputs_at(last, more))
+}
+
+/// The refusal of a fitted mesh without a tetrahedron, with the line that says why.
+fn empty_stop(
+    alloc: Global,
+    options: &Options,
+    input: &Input,
+    decimals: u32,
+    hint: &mut Bytes,
+) -> Stop
+    requires input { IsSound input.now }
+    requires ranges { AreInTriedRange (at_decimals decimals options.now) }
+    ensures { TellsEmpty options.now input.now decimals hint.new result }
+{
+    match opening_of(alloc, fit_limits(), options, input, decimals) {
+        Ok(line) => {
+            *hint = line;
+            Stop::Refused {
+                status: Status::Empty,
+                numbering: None,
+            }
+        }
+        Err(_) => Stop::NoMemory,
+    }
+}
+
+/// The outputs of a fitted mesh, or its refusal where it has no tetrahedron.
+fn filled_outputs<W: Watch>(
+    alloc: Global,
+    wanted: &Wanted,
+    model: &Model,
+    fitted: Fitted,
+    hint: &mut Bytes,
+    watch: &mut W,
+) -> Result<Outputs, Stop>
+    requires input { IsSound model.now.input }
+    requires ranges { AreTriable wanted.now.options model.now.input }
+    requires refinable { IsRefinable wanted.now }
+    requires fitted { IsFitted fit_limits wanted.now.options model.now.input fitted.decimals
+        (Ok fitted.outputs) }
+    ensures made { IfOk result
+        (λ outputs. IsFittedTo wanted.now model.now.input (Ok outputs)) }
+    ensures stopped { IfErr result (IsUnfitted wanted.now.options model.now hint.new) }
+    ensures shown { SeesRounds W.shown watch.old watch.new }
+{
+    if is_empty(&fitted.outputs) {
+        let options = &wanted.options;
+        return Err(empty_stop(alloc, options, &model.input, fitted.decimals, hint));
+    }
+    Ok(told_outputs(alloc, wanted, &model.input, fitted, watch)?)
 }
 
 /// The outputs of a model with the most decimals at which the grid does not refuse it, or the
@@ -221,7 +263,7 @@ fn fitted_outputs<W: Watch>(
 {
     let options = &wanted.options;
     match fit_input(alloc, fit_limits(), options, &model.input) {
-        Ok(fitted) => Ok(told_outputs(alloc, wanted, &model.input, fitted, watch)?),
+        Ok(fitted) => filled_outputs(alloc, wanted, model, fitted, hint, watch),
         Err(refused) => {
             *hint = hint_of(alloc, fit_limits(), options, model, &refused)?;
             let Unfitted { status, numbering } = refused.end;

@@ -13,7 +13,7 @@ use Rattle.run_steps.specs.declared.status.Status.TheVariants.{Done, NoMemory, W
 use Rattle.run_steps.specs.declared.store.StoreStop.{StoreStop}
 use Rattle.run_steps.specs.declared.store.StoreStop.TheVariants.{Failed, NoMemory as StoreWanting}
 use Rattle.run_steps.specs.Steps.{forced_answer}
-use Rattle.run_steps.proofs.Steps.{IsDecided, IsSame, status_of}
+use Rattle.run_steps.proofs.Steps.{IsDecided, IsSame, IsSameBy, status_by}
 use Rattle.tetgen_run.specs.Ends.{AnswersBy, EndsWith, FinishesSo, HasNoFault, IsEarly, IsSummed, IsToldAs, IsUnchanged, LeavesBy, TellsBy, answer_of, names_points, numbering_in}
 use Rattle.tetgen_run.specs.Stops.{stop_of_store}
 use Rattle.tetgen_run.specs.declared.stop.Stop.{Stop}
@@ -45,26 +45,31 @@ end_answers Made Numbered refuses folder out (Err Unsummed) h = (h.0, h.1, h.4)
 end_answers Made Numbered refuses folder out (Err Wanting) h = tt
 
 -- what answers so has such outputs, or such a refusal
-record Outcome (Made : Result Outputs Status → Type 0) (s : Status) : Type 0 where
+record Outcome (read : Status → Status) (Made : Result Outputs Status → Type 0) (s : Status) : Type 0 where
   result : Result Outputs Status
   ran : Made result
   decided : IsDecided result
-  is : forced_answer s ≡ status_of result
+  is : read s ≡ status_by read result
 
-outcome_of : (Made : Result Outputs Status → Type 0) (folder : FolderSeen) (out : SinkSeen) (s : Status) → HasNoFault folder out → s ≢ NoMemory → AnswersBy Made folder out s → Outcome Made s
-outcome_of Made folder out Done f n h = record { result = Ok h.0; ran = h.1; decided = tt; is = refl }
-outcome_of Made folder out (WriteFault None) f n h = absurd (f.2 h.2)
-outcome_of Made folder out (WriteFault (Some name)) f n h = absurd (f.1 h.2)
-outcome_of Made folder out NoMemory f n h = absurd (n refl)
-outcome_of Made folder out s f n h = record { result = Err s; ran = h; decided = n; is = refl }
+outcome_of : (read : Status → Status) (Made : Result Outputs Status → Type 0) (folder : FolderSeen) (out : SinkSeen) (s : Status) → read Done ≡ Done → HasNoFault folder out → s ≢ NoMemory → AnswersBy Made folder out s
+    → Outcome read Made s
+outcome_of read Made folder out Done e f n h = record { result = Ok h.0; ran = h.1; decided = tt; is = e }
+outcome_of read Made folder out (WriteFault None) e f n h = absurd (f.2 h.2)
+outcome_of read Made folder out (WriteFault (Some name)) e f n h = absurd (f.1 h.2)
+outcome_of read Made folder out NoMemory e f n h = absurd (n refl)
+outcome_of read Made folder out s e f n h = record { result = Err s; ran = h; decided = n; is = refl }
 
--- where the steps have one status, so has the answer
+-- where the steps have one status, as it is read, so has the answer
+pub answers_same_by : (read : Status → Status) (Made : Result Outputs Status → Type 0) → read Done ≡ Done → IsSameBy read Made → (folder : FolderSeen) (out : SinkSeen) → HasNoFault folder out → (one two : Status)
+    → one ≢ NoMemory → two ≢ NoMemory → AnswersBy Made folder out one → AnswersBy Made folder out two → read one ≡ read two
+answers_same_by read Made e same folder out f one two n m h k =
+    let a = outcome_of read Made folder out one e f n h in
+    let b = outcome_of read Made folder out two e f m k in
+    a.is ∙ same a.result b.result a.decided b.decided a.ran b.ran ∙ sym b.is
+
 pub answers_same : (Made : Result Outputs Status → Type 0) → IsSame Made → (folder : FolderSeen) (out : SinkSeen) → HasNoFault folder out → (one two : Status)
     → one ≢ NoMemory → two ≢ NoMemory → AnswersBy Made folder out one → AnswersBy Made folder out two → forced_answer one ≡ forced_answer two
-answers_same Made same folder out f one two n m h k =
-    let a = outcome_of Made folder out one f n h in
-    let b = outcome_of Made folder out two f m k in
-    a.is ∙ same a.result b.result a.decided b.decided a.ran b.ran ∙ sym b.is
+answers_same Made = answers_same_by forced_answer Made refl
 
 -- ---- what is left
 

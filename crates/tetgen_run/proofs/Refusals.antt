@@ -4,7 +4,7 @@ use Rattle.std.specs.Prelude.{◌≢◌, IsTrue}
 use Rattle.tet_ports.specs.Seen.{IsMessagePut, SinkSeen}
 use Rattle.run_steps.specs.declared.numbering.Numbering.{Numbering}
 use Rattle.run_steps.specs.declared.status.Status.{Status}
-use Rattle.run_steps.specs.declared.status.Status.TheVariants.{Done, WriteFault}
+use Rattle.run_steps.specs.declared.status.Status.TheVariants.{Done, Empty, WriteFault}
 use Rattle.tetgen_run.specs.Ends.{TellsBy, names_points}
 
 pub not_true : IsTrue false → ⊥
@@ -15,6 +15,19 @@ abbrev pub IsRefusal : Status → Type 0
 IsRefusal Done = ⊥
 IsRefusal (WriteFault name) = ⊥
 IsRefusal status = Unit {0}
+
+-- that of a step before the outputs is not that the mesh is empty either
+abbrev pub IsStepRefusal : Status → Type 0
+IsStepRefusal Done = ⊥
+IsStepRefusal Empty = ⊥
+IsStepRefusal (WriteFault name) = ⊥
+IsStepRefusal status = Unit {0}
+
+pub step_refuses : (s : Status) → IsStepRefusal s → IsRefusal s
+step_refuses Done h = absurd h
+step_refuses Empty h = absurd h
+step_refuses (WriteFault name) h = absurd h
+step_refuses s h = tt
 
 -- the message of the status prints no points
 abbrev pub IsSilent : Status → Type 0

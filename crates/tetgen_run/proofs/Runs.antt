@@ -46,7 +46,7 @@ use Rattle.run_steps.proofs.Once.{run_same}
 use Rattle.run_steps.proofs.Refusals.{input_has}
 use Rattle.run_steps.proofs.Steps.{and_then_refuses}
 use Rattle.tetgen_run.proofs.Determined.{mesh_determined}
-use Rattle.tetgen_run.proofs.Refusals.{IsRefusal, IsSilent, not_true}
+use Rattle.tetgen_run.proofs.Refusals.{IsRefusal, IsSilent, IsStepRefusal, not_true, step_refuses}
 use Rattle.tetgen_run.proofs.Endings.{NumbersPoints, answers_same, end_answers, end_leaves, early_leaves, end_tells, finish_ends}
 use Rattle.tetgen_run.proofs.Checks.{check_answer, check_same, check_left, early_check, check_told, checked_end}
 
@@ -64,10 +64,10 @@ input_refuses = input_has IsRefusal (λ name. tt) (λ name. tt) (λ name fault. 
 input_silent : (limits : Limits) (seen : FolderSeen) (options : Options) (piecewise : Bool) (s : Status) → InputOf limits piecewise seen options (Err s) → IsSilent s
 input_silent = input_has IsSilent (λ name. refl) (λ name. refl) (λ name fault. refl) (λ name most. refl) refl
 
-want_refuses : (s : Status) → s ≡ NoMemory → IsRefusal s
-want_refuses s e = subst IsRefusal (sym e) tt
+want_refuses : (s : Status) → s ≡ NoMemory → IsStepRefusal s
+want_refuses s e = subst IsStepRefusal (sym e) tt
 
-bound_refuses : (limits : Limits) (options : Options) (input : Input) (s : Status) → IsUnbound limits options input s → IsRefusal s
+bound_refuses : (limits : Limits) (options : Options) (input : Input) (s : Status) → IsUnbound limits options input s → IsStepRefusal s
 bound_refuses limits options input (Limit what) h = tt
 bound_refuses limits options input NoMemory h = tt
 bound_refuses limits options input s h = absurd h
@@ -78,7 +78,7 @@ bound_silent limits options input (Limit what) h = refl
 bound_silent limits options input NoMemory h = refl
 bound_silent limits options input s h = absurd h
 
-fault_refuses : (f : MeshFault) → IsRefusal (status_of_fault f)
+fault_refuses : (f : MeshFault) → IsStepRefusal (status_of_fault f)
 fault_refuses fault.Flat = tt
 fault_refuses (fault.NotFlat facet four) = tt
 fault_refuses (fault.SegmentsCross one two) = tt
@@ -88,34 +88,35 @@ fault_refuses (fault.Crossing one two) = tt
 fault_refuses (fault.NoFill anomaly) = tt
 fault_refuses fault.NoMemory = tt
 
-flat_refuses : (bound : Bound) (s : Status) → IsFlatRefusal bound s → IsRefusal s
+flat_refuses : (bound : Bound) (s : Status) → IsFlatRefusal bound s → IsStepRefusal s
 flat_refuses bound Flat h = tt
 flat_refuses bound NoMemory h = tt
 flat_refuses bound s h = absurd h
 
-weights_refuse : (name : List ℕ) (f : RegularFault) → IsRefusal (status_of_weights name f)
+weights_refuse : (name : List ℕ) (f : RegularFault) → IsStepRefusal (status_of_weights name f)
 weights_refuse name (regular.Text fault) = tt
 weights_refuse name (regular.TooHeavy line) = tt
 weights_refuse name regular.Flat = tt
 weights_refuse name regular.NoMemory = tt
 
-points_refuse : (options : Options) (bound : Bound) (weighted : Bool) (s : Status) → PointsMeshOf weighted options bound (Err s) → IsRefusal s
+points_refuse : (options : Options) (bound : Bound) (weighted : Bool) (s : Status) → PointsMeshOf weighted options bound (Err s) → IsStepRefusal s
 points_refuse options bound false s h = flat_refuses bound s h
-points_refuse options bound true s h = subst IsRefusal (sym h.1) (weights_refuse (file_name options.base Node) h.0)
+points_refuse options bound true s h = subst IsStepRefusal (sym h.1) (weights_refuse (file_name options.base Node) h.0)
 
-mesh_refuses : (options : Options) (bound : Bound) (piecewise : Bool) (s : Status) → MeshOf piecewise options bound (Err s) → IsRefusal s
+mesh_refuses : (options : Options) (bound : Bound) (piecewise : Bool) (s : Status) → MeshOf piecewise options bound (Err s) → IsStepRefusal s
 mesh_refuses options bound false s h = points_refuse options bound options.weighted s h
-mesh_refuses options bound true s h = subst IsRefusal (sym h.1) (fault_refuses h.0)
+mesh_refuses options bound true s h = subst IsStepRefusal (sym h.1) (fault_refuses h.0)
 
-pub meshed_refuses : (limits : Limits) (options : Options) (input : Input) (s : Status) → MeshedAnswer limits options input (Err s) → IsRefusal s
+pub meshed_refuses : (limits : Limits) (options : Options) (input : Input) (s : Status) → MeshedAnswer limits options input (Err s) → IsStepRefusal s
 meshed_refuses limits options input =
-    and_then_refuses IsRefusal (BoundAnswer limits options input) (λ bound. AndThen (MeshAnswer options bound) (OutputsAnswer options)) (bound_refuses limits options input)
-    (λ bound. and_then_refuses IsRefusal (MeshAnswer options bound) (OutputsAnswer options) (mesh_refuses options bound options.piecewise) (λ mesh. want_refuses))
+    and_then_refuses IsStepRefusal (BoundAnswer limits options input) (λ bound. AndThen (MeshAnswer options bound) (OutputsAnswer options)) (bound_refuses limits options input)
+    (λ bound. and_then_refuses IsStepRefusal (MeshAnswer options bound) (OutputsAnswer options) (mesh_refuses options bound options.piecewise) (λ mesh. want_refuses))
 
 pub run_refuses : (limits : Limits) (words : List (List ℕ)) (seen : FolderSeen) (s : Status) → OutputsOfRun limits words seen (Err s) → IsRefusal s
 run_refuses limits words seen =
     and_then_refuses IsRefusal (WordsAnswer words) (λ options. AndThen (InputAnswer limits seen options) (MeshedAnswer limits options)) (words_refuse words)
-    (λ options. and_then_refuses IsRefusal (InputAnswer limits seen options) (MeshedAnswer limits options) (input_refuses limits seen options options.piecewise) (meshed_refuses limits options))
+    (λ options. and_then_refuses IsRefusal (InputAnswer limits seen options) (MeshedAnswer limits options) (input_refuses limits seen options options.piecewise)
+    (λ input s h. step_refuses s (meshed_refuses limits options input s h)))
 
 -- ---- the answer
 

@@ -32,7 +32,11 @@ pub fn finish<F: Folder, O: Sink>(
     ensures unread { (F.state folder.new).read_faults ≡ (F.state folder.old).read_faults }
     ensures misses { (F.state folder.new).misses ≡ (F.state folder.old).misses }
 {
-    let Outputs { texts, report } = outputs;
+    let Outputs {
+        texts,
+        report,
+        tetrahedra: _,
+    } = outputs;
     let text = text_of(alloc, report)?;
     store_all(texts.in_order(alloc)?, folder)?;
     sum_up(text, out)

@@ -60,4 +60,5 @@ returns c =
       texts_are = texts_same options _ _ _ _ _ _ _ _ _ c.in_ok-texts.ensures c.first_of.ensures c.in_ok-edge.ensures c.in_ok-neigh.ensures c.second-second.ensures;
       report_is = c.report_of-report.ensures ∙ ap (λ (n : ℕ). report_of options mesh n c.len.result) count.2
           ∙ ap (λ (n : ℕ). report_of options mesh (length count.0) n) c.len.ensures.count;
+      count_is = c.len-tetrahedra.ensures.count;
     }

@@ -8,5 +8,5 @@ use Rattle.tetfit_run.proofs.opening.told_of.Goals as goal
 
 pub returns-in-Ok : goal.returns-in-Ok
 returns-in-Ok c =
-    let carves = some_told c.args.surface c.in-Ok.outputs c.tells_none.result c.carved_line.result c.tells_none.ensures c.if-tells_none.false c.carved_line.ensures in
+    let carves = some_told c.args.surface c.in-Ok.outputs c.is_empty.result c.carved_line.result c.is_empty.ensures c.if-is_empty.false c.carved_line.ensures in
     subst (λ (answer : Result Outputs Status). IfOk c.carved_line.result (TellsCarved c.args.surface answer)) (sym c.in-Ok.is) carves

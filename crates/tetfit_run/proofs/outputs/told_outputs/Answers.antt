@@ -1,4 +1,6 @@
-use Rattle.std.proofs.Common.{sym, subst}
+use Rattle.std.proofs.Common.{◌≡◌, List, sym, subst}
+use Rattle.grid_coords.specs.declared.points.DecimalPoint.{DecimalPoint}
+use Rattle.tetfit_run.specs.Hints.{moved_text}
 use Rattle.tetfit_run.specs.Outputs.{IsFittedTo}
 use Rattle.std.specs.Prelude.{Ok}
 use Rattle.tetfit_run.proofs.Fitted.{fitted_told}
@@ -11,5 +13,6 @@ returns-clause-made g c =
     let i = c.args.input.now in
     let last = c.in_ok-last.last in
     let more = c.in_ok-more.more in
-    let made = fitted_told w i f.decimals last.decimals f.outputs last.outputs more c.requires.fitted c.in_ok-last.ensures.outputs c.in_ok-more.ensures in
+    let made = fitted_told w i f.decimals last.decimals f.outputs last.outputs more c.requires.fitted c.requires.some c.in_ok-last.ensures.outputs
+    (subst (λ (ps : List DecimalPoint). more ≡ moved_text last.decimals ps) c.as_slice.ensures c.in_ok-more.ensures) in
     subst (λ o. IsFittedTo w i (Ok o)) (sym c.outputs_at.ensures) made
