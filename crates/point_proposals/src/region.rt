@@ -171,9 +171,9 @@ fn note_encroached_edges(
         return Ok(());
     };
     for side in cell.edges() {
-        if let Some(e) = field.mesh.subsegment_of(side) {
-            if let Some((a, b)) = field.mesh.ends(e) {
-                if is_in_diametral(a, b, p) {
+        if let Some((a, b)) = field.mesh.ends_of(side) {
+            if is_in_diametral(a, b, p) {
+                if let Some(e) = field.mesh.subsegment_of(side) {
                     found.push(Ranked::new(e, distance(a, b)))?;
                 }
             }

@@ -2,23 +2,43 @@
 //! which small dihedral angles grow where the goal has a least one.
 
 use crate::goal::ShapeBounds;
+use crate::progress::{Progress, slim_in};
 use crate::propose::Propose;
 use complex_mesh::ComplexMesh;
 use geo_laws::Points;
 use point_proposals::{Aim, propose};
-use shape_improvement::{Grade, grade_of, improve};
+use shape_improvement::{Grade, Trials, grade_of, improve};
 use std::alloc::Global;
 use tet_ports::NoMemory;
 
-/// Proposes points while a tetrahedron is over a bound.
-#[derive(Clone, Copy)]
+/// Proposes points while a tetrahedron is over a bound and the share of those over the ratio falls.
+#[derive(Drop)]
 pub struct Quality<'a> {
-    pub shapes: &'a ShapeBounds,
-    /// Whether points may be proposed on segments and in facets.
-    pub splits_boundary: bool,
+    shapes: &'a ShapeBounds,
+    splits_boundary: bool,
+    progress: Progress,
 }
 
 impl<'a> Quality<'a> {
+    /// For these bounds, before the first round. `splits_boundary` is whether points may be
+    /// proposed on segments and in facets.
+    pub fn new(shapes: &'a ShapeBounds, splits_boundary: bool) -> Self {
+        Quality {
+            shapes,
+            splits_boundary,
+            progress: Progress::new(),
+        }
+    }
+
+    /// Whether points are to be proposed for a mesh: where only the ratio is bounded, only while
+    /// the share of tetrahedra over it falls.
+    fn goes_on(&mut self, mesh: &ComplexMesh) -> bool {
+        match self.shapes.ratio {
+            Some(ratio) if self.shapes.volumes.is_none() => self.progress.goes_on(mesh, ratio),
+            _ => true,
+        }
+    }
+
     /// What points are proposed for in a mesh.
     fn proposal<'b>(&'b self, mesh: &'b ComplexMesh, own: usize, halvings: u32) -> Aim<'b> {
         Aim {
@@ -54,10 +74,20 @@ impl<'a> Quality<'a> {
         }
     }
 
-    /// The grade of a mesh.
+    /// Whether a mesh has no more tetrahedra over the ratio than another one, or very few.
+    fn has_few_slim(&self, mesh: &ComplexMesh, than: &ComplexMesh) -> bool {
+        let Some(ratio) = self.shapes.ratio else {
+            return true;
+        };
+        let few = mesh.tetrahedra.len() / 2048;
+        slim_in(mesh, ratio) <= slim_in(than, ratio).max(few)
+    }
+
+    /// The grade of a mesh, but for the tetrahedra over the ratio.
     fn grade(&self, alloc: Global, mesh: &ComplexMesh, own: usize) -> Result<Grade, NoMemory> {
         let mosts = self.mosts(alloc, mesh)?;
-        let aim = self.improvement(mosts.as_slice(), own, 0);
+        let mut aim = self.improvement(mosts.as_slice(), own, 0);
+        aim.ratio = None;
         grade_of(alloc, &mesh.points, &mesh.tetrahedra, &mesh.triangles, &aim)
     }
 }
@@ -70,6 +100,9 @@ impl<'a> Propose for Quality<'a> {
         own: usize,
         halvings: u32,
     ) -> Result<Points, NoMemory> {
+        if !self.goes_on(mesh) {
+            return Ok(Points::new(alloc));
+        }
         let aim = self.proposal(mesh, own, halvings);
         propose(alloc, &mesh.points, &mesh.tetrahedra, &mesh.triangles, &aim)
     }
@@ -86,7 +119,15 @@ impl<'a> Propose for Quality<'a> {
         }
         let mosts = self.mosts(alloc, mesh)?;
         let aim = self.improvement(mosts.as_slice(), own, halvings);
-        improve(alloc, &mesh.points, &mesh.tetrahedra, &mesh.triangles, &aim)
+        let mut trials = Trials::new(alloc);
+        improve(
+            alloc,
+            &mesh.points,
+            &mesh.tetrahedra,
+            &mesh.triangles,
+            &aim,
+            &mut trials,
+        )
     }
 
     fn is_better(
@@ -98,6 +139,6 @@ impl<'a> Propose for Quality<'a> {
     ) -> Result<bool, NoMemory> {
         let grade = self.grade(alloc, mesh, own)?;
         let other = self.grade(alloc, than, own)?;
-        Ok(grade.is_better(&other))
+        Ok(grade.is_better(&other) && self.has_few_slim(mesh, than))
     }
 }

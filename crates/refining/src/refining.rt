@@ -13,6 +13,7 @@ use crate::addable::addable;
 use crate::corners::are_corners;
 use crate::goal::ShapeBounds;
 use crate::meshing::{mesh_plain, mesh_with};
+use crate::part::Part;
 use crate::placing::placed;
 use crate::propose::Propose;
 use crate::watch::{Watch, round_of};
@@ -65,24 +66,6 @@ fn most_of(bounds: &Bounds<'_>) -> usize
     bounds.most.min(1_073_741_824)
 }
 
-/// The points of a mesh behind the first `known`, which are those of protection, and behind them
-/// the proposed points.
-fn with_protection(
-    alloc: Global,
-    mesh: &ComplexMesh,
-    known: usize,
-    proposed: &Points,
-) -> Result<Points, NoMemory> {
-    let mut all = Points::new(alloc);
-    for i in known..mesh.points.len() {
-        all.push(mesh.points.at(i))?;
-    }
-    for i in 0..proposed.len() {
-        all.push(proposed.at(i))?;
-    }
-    Ok(all)
-}
-
 /// What a round comes to.
 #[derive(Drop)]
 enum Turn {
@@ -124,27 +107,107 @@ fn meshed(
     }
 }
 
-/// A mesh with more points than `taken` has, where some are proposed and the complex has a mesh
-/// with them. The points of protection are added with them, since few halvings are left to it.
+/// A complex whose mesh is refined, and the bounds of that.
+#[derive(Clone, Copy)]
+struct Task<'a> {
+    options: &'a Options,
+    bound: &'a Bound,
+    bounds: &'a Bounds<'a>,
+}
+
+/// How the points of a round are chosen.
+#[derive(Clone, Copy)]
+struct Step {
+    /// Each coordinate of a point that is added is a multiple of `2^halvings` grid units.
+    halvings: u32,
+    part: Part,
+    /// How many rounds before this one were refused or added no point, one after the other.
+    refused: u32,
+    /// Whether the last quarter of the model was refused.
+    is_spent: bool,
+}
+
+/// How many halvings more are left to protection after a round that is refused.
+const MORE_HALVINGS: u32 = 2;
+
+impl Step {
+    /// The first step of a refinement.
+    fn first(bound: &Bound, bounds: &Bounds<'_>) -> Step {
+        Step {
+            halvings: bounds.halvings.min(bound.table.grid.halvings),
+            part: Part::whole(&bound.table.points),
+            refused: 0,
+            is_spent: false,
+        }
+    }
+
+    /// The step after a round whose mesh was made.
+    fn after_mesh(&self) -> Step {
+        Step {
+            halvings: self.halvings,
+            part: self.part.after_mesh(),
+            refused: 0,
+            is_spent: false,
+        }
+    }
+
+    /// The step after a refused round, where the grid has `most` halvings: points are to be
+    /// multiples of more units, so that protection has more halvings, as far as there are more;
+    /// then they are added to those of the last mesh in one quarter of the model after the other.
+    fn after_refusal(&self, taken: &Taken, most: u32) -> Step {
+        let more = self.halvings.saturating_add(MORE_HALVINGS);
+        let refused = self.refused.saturating_add(1);
+        if self.part.is_whole() && more < most {
+            return Step {
+                halvings: more,
+                part: self.part,
+                refused,
+                is_spent: false,
+            };
+        }
+        let halvings = if taken.added.is_empty() {
+            self.halvings
+        } else {
+            taken.halvings
+        };
+        let part = self.part.next();
+        Step {
+            halvings,
+            part,
+            refused,
+            is_spent: part.is_whole(),
+        }
+    }
+}
+
+/// A mesh with more points than `taken` has, where some are proposed in the part and the complex
+/// has a mesh with them. The points of protection are added with them, since few halvings are left
+/// to it.
 fn next_taken<P: Propose>(
     alloc: Global,
-    options: &Options,
-    bound: &Bound,
-    bounds: &Bounds<'_>,
+    task: Task<'_>,
+    step: &Step,
     taken: &Taken,
     proposer: &mut P,
 ) -> Result<Turn, NoMemory>
-    requires bound { IsMeshableBound options.now bound.now }
-    ensures { IfOk result (IsTurn options.now bound.now) }
+    requires bound { IsMeshableBound task.options.now task.bound.now }
+    ensures { IfOk result (IsTurn task.entry.options.now task.entry.bound.now) }
 {
+    let Task {
+        options,
+        bound,
+        bounds,
+    } = task;
     let own = bound.table.points.len();
-    let halvings = bounds.halvings.min(bound.table.grid.halvings);
+    let halvings = step.halvings.min(bound.table.grid.halvings);
     let proposed = proposer.propose(alloc, &taken.made, own, halvings)?;
     if proposed.is_empty() {
         return Ok(Turn::Done);
     }
     let known = own.saturating_add(taken.added.len());
-    let proposed = with_protection(alloc, &taken.made, known, &proposed)?;
+    let proposed = step
+        .part
+        .with_protection(alloc, &taken.made, known, &proposed)?;
     let points = &bound.table.points;
     let more = addable(
         alloc,
@@ -154,18 +217,13 @@ fn next_taken<P: Propose>(
         halvings,
         bounds.added,
     )?;
-    if more.is_empty() || more.len() <= taken.added.len() {
-        return Ok(Turn::Done);
+    if !more.is_empty() && more.len() > taken.added.len() {
+        meshed(alloc, options, bound, more, halvings, most_of(bounds))
+    } else if step.refused == 0 && step.part.is_whole() {
+        Ok(Turn::Done)
+    } else {
+        Ok(Turn::Refused)
     }
-    meshed(alloc, options, bound, more, halvings, most_of(bounds))
-}
-
-/// A complex whose mesh is refined, and the bounds of that.
-#[derive(Clone, Copy)]
-struct Task<'a> {
-    options: &'a Options,
-    bound: &'a Bound,
-    bounds: &'a Bounds<'a>,
 }
 
 /// Shows the mesh of a round, where that is asked for.
@@ -194,12 +252,8 @@ struct Rounds {
     rounds: u32,
 }
 
-/// How many halvings more are left to protection after a round whose mesh is refused.
-const MORE_HALVINGS: u32 = 2;
-
-/// The mesh after the last round from `first` on. After a round whose mesh is refused the points
-/// are to be multiples of more units, so that protection has more halvings; the rounds end where
-/// the grid has no more of them.
+/// The mesh after the last round from `first` on. After a round whose mesh is refused the next one
+/// adds other points to those of the last mesh; the rounds end after some that are refused.
 fn taken_last<P: Propose, W: Watch>(
     alloc: Global,
     task: Task<'_>,
@@ -216,23 +270,20 @@ fn taken_last<P: Propose, W: Watch>(
     ensures shown { AreShown W.shown task.entry.bounds.now.shapes.now task.entry.options.now
         task.entry.bound.now watch.old watch.new }
 {
-    let Task {
-        options,
-        bound,
-        bounds,
-    } = task;
+    let Task { bound, bounds, .. } = task;
     let mut taken = first;
-    let mut within = *bounds;
+    let mut step = Step::first(bound, bounds);
     for rounds in 0..bounds.rounds {
-        match next_taken(alloc, options, bound, &within, &taken, proposer)? {
+        match next_taken(alloc, task, &step, &taken, proposer)? {
             Turn::Done => return Ok(Rounds { taken, rounds }),
             Turn::More(next) => {
                 show(alloc, task, &next, watch)?;
                 taken = next;
+                step = step.after_mesh();
             }
             Turn::Refused => {
-                within.halvings = within.halvings.saturating_add(MORE_HALVINGS);
-                if within.halvings >= bound.table.grid.halvings {
+                step = step.after_refusal(&taken, bound.table.grid.halvings);
+                if step.is_spent {
                     return Ok(Rounds { taken, rounds });
                 }
             }
@@ -245,7 +296,7 @@ fn taken_last<P: Propose, W: Watch>(
 }
 
 /// The most rounds in which the added points are replaced.
-const IMPROVEMENTS: u32 = 4;
+const IMPROVEMENTS: u32 = 6;
 
 /// How often a segment may be halved where the added points of a mesh are replaced: as often as
 /// there, and as often as the bounds tell where it has none.
@@ -260,24 +311,29 @@ fn halvings_behind(bound: &Bound, bounds: &Bounds<'_>, taken: &Taken) -> u32
     halvings.min(bound.table.grid.halvings)
 }
 
-/// A mesh with other points in place of those of `taken`, where some are proposed and the complex
-/// has a mesh with them.
+/// A mesh with other points in place of those of `taken` in a part of the model, where some are
+/// proposed and the complex has a mesh with them.
 fn next_improved<P: Propose>(
     alloc: Global,
-    options: &Options,
-    bound: &Bound,
-    bounds: &Bounds<'_>,
+    task: Task<'_>,
+    part: &Part,
     taken: &Taken,
     proposer: &mut P,
 ) -> Result<Turn, NoMemory>
-    requires bound { IsMeshableBound options.now bound.now }
-    ensures { IfOk result (IsTurn options.now bound.now) }
+    requires bound { IsMeshableBound task.options.now task.bound.now }
+    ensures { IfOk result (IsTurn task.entry.options.now task.entry.bound.now) }
 {
+    let Task {
+        options,
+        bound,
+        bounds,
+    } = task;
     let own = bound.table.points.len();
     let halvings = halvings_behind(bound, bounds, taken);
     let Some(proposed) = proposer.improve(alloc, &taken.made, own, halvings)? else {
         return Ok(Turn::Done);
     };
+    let proposed = part.exchanged(alloc, &taken.made, own, &proposed)?;
     let points = &bound.table.points;
     let none = Points::new(alloc);
     let added = addable(alloc, points, &none, &proposed, halvings, bounds.added)?;
@@ -296,8 +352,8 @@ fn base<'a>(best: &'a Taken, last: &'a Option<Taken>) -> &'a Taken {
 }
 
 /// The best of the meshes of some rounds from `first` on, each with points in place of those of the
-/// one before. A mesh that is no better than the best one is only where the next round begins;
-/// after two of them the rounds end.
+/// one before. A mesh that is no better than the best one is only where the next round begins.
+/// After a refused mesh points are replaced in one quarter of the model after the other.
 fn improved<P: Propose, W: Watch>(
     alloc: Global,
     task: Task<'_>,
@@ -312,27 +368,29 @@ fn improved<P: Propose, W: Watch>(
     ensures shown { AreShown W.shown task.entry.bounds.now.shapes.now task.entry.options.now
         task.entry.bound.now watch.old watch.new }
 {
-    let Task {
-        options,
-        bound,
-        bounds,
-    } = task;
-    let own = bound.table.points.len();
+    let own = task.bound.table.points.len();
     let mut best = first;
     let mut last = None;
+    let mut part = Part::whole(&task.bound.table.points);
     for _ in 0..IMPROVEMENTS {
-        let base = base(&best, &last);
-        let Turn::More(next) = next_improved(alloc, options, bound, bounds, base, proposer)? else {
-            break
-        };
-        show(alloc, task, &next, watch)?;
-        if proposer.is_better(alloc, &next.made, &best.made, own)? {
-            best = next;
-            last = None;
-        } else if last.is_some() {
-            break;
-        } else {
-            last = Some(next);
+        match next_improved(alloc, task, &part, base(&best, &last), proposer)? {
+            Turn::Done => break,
+            Turn::Refused => {
+                part = part.next();
+                if part.is_whole() {
+                    break;
+                }
+            }
+            Turn::More(next) => {
+                show(alloc, task, &next, watch)?;
+                part = part.after_mesh();
+                if proposer.is_better(alloc, &next.made, &best.made, own)? {
+                    best = next;
+                    last = None;
+                } else {
+                    last = Some(next);
+                }
+            }
         }
     }
     Ok(best)

@@ -218,10 +218,8 @@ impl Fill {
     /// Takes the waiting face with these corners out.
     fn take(&mut self, face: [u32; 3]) -> Option<Front> {
         for i in 0..self.fronts.len() {
-            let front = self.fronts[i];
-            if front.face == face {
-                self.fronts.swap_remove(i);
-                return Some(front);
+            if self.fronts[i].face == face {
+                return Some(self.fronts.swap_remove(i));
             }
         }
         None
@@ -260,13 +258,26 @@ impl Fill {
         Ok(true)
     }
 
-    /// Makes the tetrahedra, and reports whether no face is left.
-    fn wrap(&mut self, live: &mut Live) -> Result<bool, NoMemory> {
+    /// The six-fold volume of the tetrahedron that was made last.
+    fn last_volume(&self, live: &Live) -> i128 {
+        let cell = self.cells.last().and_then(|t| live.cell(*t));
+        cell.and_then(|cell| live.volume(&cell.corners))
+            .unwrap_or(0)
+    }
+
+    /// Makes the tetrahedra, and reports whether no face is left and they fill the volume. It ends
+    /// as soon as they are more than that.
+    fn wrap(&mut self, live: &mut Live, volume: i128) -> Result<bool, NoMemory> {
+        let mut left = volume;
         for _ in 0..MOST {
             let Some(front) = self.fronts.pop() else {
-                return Ok(true);
+                return Ok(left == 0);
             };
             if !self.step(live, &front)? {
+                return Ok(false);
+            }
+            left = left.wrapping_sub(self.last_volume(live));
+            if left < 0 {
                 return Ok(false);
             }
         }
@@ -298,11 +309,12 @@ impl Fill {
         star: &Star,
         v: u32,
     ) -> Result<bool, NoMemory> {
-        if !self.start(alloc, live, star, v)? || !self.wrap(live)? {
+        let volume = volume_of(live, star.cells.as_slice());
+        if !self.start(alloc, live, star, v)? || !self.wrap(live, volume)? {
             return Ok(false);
         }
         self.link_floors(live)?;
-        Ok(volume_of(live, self.cells.as_slice()) == volume_of(live, star.cells.as_slice()))
+        Ok(true)
     }
 
     /// Replaces the star of a point by tetrahedra without it, and reports whether it can be.

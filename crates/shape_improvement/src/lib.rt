@@ -18,7 +18,9 @@ mod site;
 mod splitting;
 mod star;
 mod tally;
+mod trials;
 mod walk;
 
 pub use grade::{Grade, grade_of};
 pub use passes::{Aim, improve};
+pub use trials::Trials;

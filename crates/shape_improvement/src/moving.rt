@@ -9,6 +9,7 @@ use crate::sine::RIGHT;
 use crate::site::Site;
 use crate::star::Star;
 use crate::tally::{Tally, sine_of, sine_unmarked, tally_of};
+use crate::trials::{Trials, code_of, tet_code};
 use crate::walk::walk;
 use geo_laws::Side;
 use point_proposals::{Rung, Spot, distance, grid_point};
@@ -356,12 +357,45 @@ impl Mover {
         self.site.set(&self.star, freedom)
     }
 
+    /// The hash of a point and its star.
+    fn star_code(&self, v: u32) -> u64 {
+        let mut code = self.live.spot(v).map_or(0, |p| code_of(p));
+        for t in self.star.cells.as_slice() {
+            let corners = self
+                .live
+                .cell(*t)
+                .and_then(|cell| self.live.spots(&cell.corners));
+            code = code.wrapping_add(corners.map_or(0, |corners| tet_code(&corners)));
+        }
+        code
+    }
+
     /// Moves a point, or takes it out, and reports whether the worst angle of its star grew, and
-    /// that of the tetrahedron where the point is across one of its faces.
-    pub(crate) fn shift(&mut self, v: u32, cell: &Cell, is_across: bool) -> Result<bool, NoMemory> {
+    /// that of the tetrahedron where the point is across one of its faces. Where the point was
+    /// tried in vain twice with the same star it is let alone.
+    pub(crate) fn shift(
+        &mut self,
+        v: u32,
+        cell: &Cell,
+        is_across: bool,
+        trials: &mut Trials,
+    ) -> Result<bool, NoMemory> {
         if !self.open_star(v)? {
             return Ok(false);
         }
+        let code = self.star_code(v) ^ u64::from(is_across);
+        if trials.is_spent(code) {
+            return Ok(false);
+        }
+        if self.shift_in_star(v, cell, is_across)? {
+            return Ok(true);
+        }
+        trials.note(code)?;
+        Ok(false)
+    }
+
+    /// Moves a point whose star is open, or takes it out, and reports whether the worst angle grew.
+    fn shift_in_star(&mut self, v: u32, cell: &Cell, is_across: bool) -> Result<bool, NoMemory> {
         let Some(search) = self.search_of(v, cell, is_across) else {
             return Ok(false);
         };

@@ -3,6 +3,7 @@ use crate::entering::live_of;
 use crate::live::{Bounds, Cell, Live, corner_off, face_at};
 use crate::moving::Mover;
 use crate::sine::aimed_sine;
+use crate::trials::Trials;
 use geo_laws::{FacetTriangles, Points, TetList};
 use point_proposals::{Field, grid_point, mesh_of};
 use std::alloc::Global;
@@ -74,9 +75,9 @@ fn corner_across(live: &Live, cell: &Cell, k: usize) -> Option<u32> {
 
 impl Mover {
     /// Moves a corner of a tetrahedron, and reports whether one was moved.
-    fn shift_corners(&mut self, cell: &Cell) -> Result<bool, NoMemory> {
+    fn shift_corners(&mut self, cell: &Cell, trials: &mut Trials) -> Result<bool, NoMemory> {
         for v in cell.corners {
-            if self.shift(v, cell, false)? {
+            if self.shift(v, cell, false, trials)? {
                 return Ok(true);
             }
         }
@@ -84,10 +85,10 @@ impl Mover {
     }
 
     /// Moves a point across a face of a tetrahedron, and reports whether one was moved.
-    fn shift_across(&mut self, cell: &Cell) -> Result<bool, NoMemory> {
+    fn shift_across(&mut self, cell: &Cell, trials: &mut Trials) -> Result<bool, NoMemory> {
         for k in 0..4 {
             if let Some(v) = corner_across(&self.live, cell, k) {
-                if self.shift(v, cell, true)? {
+                if self.shift(v, cell, true, trials)? {
                     return Ok(true);
                 }
             }
@@ -96,16 +97,21 @@ impl Mover {
     }
 
     /// Betters a tetrahedron, and reports whether it could be.
-    fn better(&mut self, asked: &Asked, splits: bool) -> Result<bool, NoMemory> {
+    fn better(
+        &mut self,
+        asked: &Asked,
+        splits: bool,
+        trials: &mut Trials,
+    ) -> Result<bool, NoMemory> {
         let Some(cell) = self.live.live(asked.place).copied() else {
             return Ok(false);
         };
         if cell.sine != asked.sine {
             return Ok(false);
         }
-        if self.shift_corners(&cell)?
-            || self.shift_across(&cell)?
-            || splits && self.split(asked.place, &cell)?
+        if self.shift_corners(&cell, trials)?
+            || self.shift_across(&cell, trials)?
+            || splits && self.split(asked.place, &cell, trials)?
         {
             return Ok(true);
         }
@@ -115,14 +121,19 @@ impl Mover {
     }
 
     /// Betters all tetrahedra that are to be bettered, and reports how many could be.
-    fn pass(&mut self, field: &Field, splits: bool) -> Result<usize, NoMemory> {
+    fn pass(
+        &mut self,
+        field: &Field,
+        splits: bool,
+        trials: &mut Trials,
+    ) -> Result<usize, NoMemory> {
         let asked = asked_of(self.alloc, field, &self.live, self.aim)?;
         let mut count = 0_usize;
         for asked in asked.as_slice() {
             if self.vain == 0 {
                 break;
             }
-            if self.better(asked, splits)? {
+            if self.better(asked, splits, trials)? {
                 count = count.wrapping_add(1);
             }
         }
@@ -149,6 +160,7 @@ pub fn improve(
     tetrahedra: &TetList,
     triangles: &FacetTriangles,
     aim: &Aim,
+    trials: &mut Trials,
 ) -> Result<Option<Points>, NoMemory> {
     let mesh = mesh_of(alloc, points, tetrahedra, triangles, aim.own)?;
     let field = Field::new(alloc, &mesh, aim.own)?;
@@ -163,7 +175,7 @@ pub fn improve(
     );
     let mut changed = 0_usize;
     for pass in 0..PASSES {
-        let count = mover.pass(&field, pass > 0)?;
+        let count = mover.pass(&field, pass > 0, trials)?;
         changed = changed.wrapping_add(count);
         if count == 0 && pass > 1 {
             break;

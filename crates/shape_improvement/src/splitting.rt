@@ -4,6 +4,7 @@ use crate::moving::Mover;
 use crate::search::{Best, TRIES, radius_of};
 use crate::sine::RIGHT;
 use crate::tally::Tally;
+use crate::trials::{Trials, tet_code};
 use geo_laws::{Side, side_of};
 use point_proposals::{Spot, distance, equator};
 use tet_ports::NoMemory;
@@ -242,12 +243,31 @@ impl Mover {
         Ok(false)
     }
 
-    /// Puts a new point in where this betters a tetrahedron much, and reports whether it does.
-    pub(crate) fn split(&mut self, t: u32, cell: &Cell) -> Result<bool, NoMemory> {
+    /// Puts a new point in where this betters a tetrahedron much, and reports whether it does. Where
+    /// this was tried in vain twice the tetrahedron is let alone.
+    pub(crate) fn split(
+        &mut self,
+        t: u32,
+        cell: &Cell,
+        trials: &mut Trials,
+    ) -> Result<bool, NoMemory> {
         let Some(spots) = self.live.spots(&cell.corners) else {
             return Ok(false);
         };
-        let square = shortest(&spots);
+        let code = tet_code(&spots);
+        if trials.is_spent(code) {
+            return Ok(false);
+        }
+        if self.split_apart(t, cell, shortest(&spots))? {
+            return Ok(true);
+        }
+        trials.note(code)?;
+        Ok(false)
+    }
+
+    /// Puts a new point into a tetrahedron, or on one of its edges or faces on the boundary, where
+    /// this betters it much, and reports whether it does.
+    fn split_apart(&mut self, t: u32, cell: &Cell, square: u64) -> Result<bool, NoMemory> {
         self.fill.cells.clear();
         if self.split_inside(t, cell, square)? {
             return Ok(true);

@@ -74,10 +74,7 @@ fn refined_towards<W: Watch>(
     ensures shown { SeesRounds W.shown watch.old watch.new }
 {
     let bounds = bounds_on(bound.table.grid, options, shapes);
-    let mut quality = Quality {
-        shapes,
-        splits_boundary,
-    };
+    let mut quality = Quality::new(shapes, splits_boundary);
     refined_outputs(alloc, options, bound, &bounds, &mut quality, watch)
 }
 
