@@ -45,3 +45,9 @@ pub mod Grids
 pub mod WrittenBack
 pub mod Once
 pub mod Constrained
+pub mod OneMesh
+pub mod OneOutputs
+pub mod SameInputs
+pub mod OneRun
+pub mod AsTetgen
+pub mod OneFit

@@ -143,7 +143,7 @@ last_small : (last : Option ℕ) (words : List (List ℕ)) → IsSmall last → 
 last_small last [] h = h
 last_small last (word ∷ more) h = last_small (option_or (budget_in word) last) more (either_small (budget_in word) last (in_small word) h)
 
-budget_small : (words : List (List ℕ)) → (options_of words).budget ≤ 100000
+pub budget_small : (words : List (List ℕ)) → (options_of words).budget ≤ 100000
 budget_small words = go (last_budget words) (last_small None words tt)
   where
     go : (o : Option ℕ) → IsSmall o → unwrap_or o 100000 ≤ 100000

@@ -16,3 +16,6 @@ pub mod Listed
 pub mod Checked
 pub mod Measured
 pub mod Constrained
+pub mod OneMesh
+pub mod AsTetgen
+pub mod OneFit

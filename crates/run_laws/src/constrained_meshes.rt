@@ -1,6 +1,7 @@
 //! The list of which the mesh of a complex is what carving keeps is the constrained Delaunay
-//! triangulation.
+//! triangulation; and a complex has one mesh.
 ghost use Rattle.run_laws.specs.Constrained.{ConstrainedMeshLaw, ConstrainedOnceLaw};
+ghost use Rattle.run_laws.specs.OneMesh.{OneMeshLaw};
 
 /// Two lists of tetrahedra that fill the hull face to face, have the facets as faces and are
 /// locally Delaunay across each other face are the same, where each point is a corner in both.
@@ -15,4 +16,10 @@ pub fn law_constrained_once()
 /// an edge, and there is no other such list.
 pub fn law_constrained_mesh()
     ensures { ConstrainedMeshLaw }
+{}
+
+/// A complex has one mesh: two that have the parts of one have the same points, triangles,
+/// tetrahedra and marks, whatever flips or growth came to the list that is carved.
+pub fn law_one_mesh()
+    ensures { OneMeshLaw }
 {}
