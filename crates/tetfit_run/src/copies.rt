@@ -12,35 +12,11 @@ use node_files::{Markers, NodeText, each_measured_from};
 use std::alloc::Global;
 use tet_ports::{Name, NoMemory, Words};
 
-/// Copies the options.
-fn same_options(alloc: Global, options: &Options) -> Result<Options, NoMemory>
-    ensures { IfOk result (λ made. made ≡ options.now) }
+/// Copies the name of the model.
+fn base_of(alloc: Global, options: &Options) -> Result<Name, NoMemory>
+    ensures { IfOk result (λ base. base ≡ options.now.base) }
 {
-    let base = Name::from_slice(alloc, options.base.as_slice())?;
-    Ok(Options {
-        piecewise: options.piecewise,
-        neighbors: options.neighbors,
-        all_faces: options.all_faces,
-        edges: options.edges,
-        from_zero: options.from_zero,
-        keep_hull: options.keep_hull,
-        regions: options.regions,
-        quiet: options.quiet,
-        no_node: options.no_node,
-        no_ele: options.no_ele,
-        no_face: options.no_face,
-        formats: options.formats,
-        keep_facets: options.keep_facets,
-        check: options.check,
-        weighted: options.weighted,
-        budget: options.budget,
-        halvings: options.halvings,
-        decimals: options.decimals,
-        origin: options.origin,
-        sample: options.sample,
-        base,
-        extension: options.extension,
-    })
+    Name::from_slice(alloc, options.base.as_slice())
 }
 
 /// Copies the options, with `decimals` for their number of decimals.
@@ -51,18 +27,24 @@ pub(crate) fn at_decimals(
 ) -> Result<Options, NoMemory>
     ensures { IfOk result (λ made. made ≡ at_decimals decimals options.now) }
 {
-    let mut made = same_options(alloc, options)?;
-    made.decimals = Some(decimals);
-    Ok(made)
+    let base = base_of(alloc, options)?;
+    Ok(Options {
+        decimals: Some(decimals),
+        base,
+        ..*options
+    })
 }
 
 /// Copies the options without a number of decimals, so that coordinates stay as they are.
 pub(crate) fn without_decimals(alloc: Global, options: &Options) -> Result<Options, NoMemory>
     ensures { IfOk result (λ made. made ≡ without_decimals options.now) }
 {
-    let mut made = same_options(alloc, options)?;
-    made.decimals = None;
-    Ok(made)
+    let base = base_of(alloc, options)?;
+    Ok(Options {
+        decimals: None,
+        base,
+        ..*options
+    })
 }
 
 /// Copies the options, with coordinates measured from `origin`, where there is one.
@@ -73,9 +55,12 @@ pub(crate) fn with_origin(
 ) -> Result<Options, NoMemory>
     ensures { IfOk result (λ made. made ≡ record options.now { origin = origin }) }
 {
-    let mut made = same_options(alloc, options)?;
-    made.origin = origin;
-    Ok(made)
+    let base = base_of(alloc, options)?;
+    Ok(Options {
+        origin,
+        base,
+        ..*options
+    })
 }
 
 /// Copies the options, with at most `budget` points added.
@@ -86,9 +71,12 @@ pub(crate) fn with_budget(
 ) -> Result<Options, NoMemory>
     ensures { IfOk result (λ made. made ≡ with_budget budget options.now) }
 {
-    let mut made = same_options(alloc, options)?;
-    made.budget = budget;
-    Ok(made)
+    let base = base_of(alloc, options)?;
+    Ok(Options {
+        budget,
+        base,
+        ..*options
+    })
 }
 
 fn words_of(alloc: Global, words: &Words) -> Result<Words, NoMemory>
