@@ -1,5 +1,5 @@
 -- The lines that follow the message on a refused model.
-use Rattle.std.specs.Prelude.{◌≡◌, ℕ, zero, suc, ◌+◌, ◌-◌, min, max, nat_lt, nat_le, ◌==◌, ◌&&◌, Bool, false, length, position, drop, find, slice_get, slice_index, List, [], ◌++◌, codes, Option, Some, None, Ok, Err, if◌then◌else◌}
+use Rattle.std.specs.Prelude.{◌≡◌, ℕ, zero, suc, ◌+◌, ◌-◌, min, max, nat_lt, nat_le, ◌==◌, ◌&&◌, Bool, false, length, position, drop, find, slice_get, slice_index, List, [], ◌∷◌, ◌++◌, codes, Option, Some, None, Ok, Err, if◌then◌else◌}
 use Rattle.std.specs.Fmt.{decimal}
 use Rattle.std.specs.List.{list_any}
 use Rattle.std.specs.Option.{option_map_or}
@@ -141,6 +141,15 @@ rounded_text (Some m) most = if nat_lt m most then rounded_line m most else []
 abbrev pub rounding_text : Options → List DecimalPoint → List ℕ
 rounding_text options points = rounded_text options.decimals (most_decimals points)
 
+-- the line on points that span no tetrahedron: all lie in one plane, or the file has none
+abbrev pub flat_line : List DecimalPoint → List ℕ
+flat_line [] = codes "tetfit: nothing to mesh: the file has no points and no facets\n"
+flat_line (p ∷ ps) = codes "tetfit: all points lie in one plane\n"
+
+-- and the line that their coordinates were rounded, where they were
+abbrev pub flat_text : Options → List DecimalPoint → List ℕ
+flat_text options points = flat_line points ++ rounding_text options points
+
 -- half a unit of the last of m decimals
 unfoldable pub half_unit : ℕ → List ℕ
 half_unit m = sign_text false ++ size_text 5 (m + 1)
@@ -162,7 +171,7 @@ parts_text options points by one two = part_line points by one ++ part_line poin
 -- the lines that follow the message on an input with these options, refused with the status, its points numbered by
 -- `by`
 abbrev pub IsHintBy : Limits → Options → Input → Numbering → Status → List ℕ → Type 0
-IsHintBy limits options input by Flat lines = lines ≡ rounding_text options input.nodes.decimals
+IsHintBy limits options input by Flat lines = lines ≡ flat_text options input.nodes.decimals
 IsHintBy limits options input by (NotFlat facet four) lines = lines ≡ rounding_text options input.nodes.decimals
 IsHintBy limits options input by (SegmentsCross one two) lines =
     lines ≡ parts_text options input.nodes.decimals by (SegmentPart one) (SegmentPart two)

@@ -37,13 +37,15 @@ help_of (BudgetEnd made piece) = help_of_budget made
 help_of (NoFill anomaly) = codes "tetfit: move the points of these facets apart\n"
 help_of status = []
 
--- the line of a refusal; a point off the grid is reported in the lines that follow, with its coordinates
+-- the line of a refusal; a point off the grid and points in one plane are reported in the lines that follow
 abbrev pub line_of : List (List ℕ) → Option Numbering → Status → List ℕ
 line_of words by (Usage word place) = refused_line words word place
 line_of words by (Limit (Grid line)) = []
+line_of words by Flat = []
 line_of words by status = message_of tetfit_name by status
 
--- lines on the model follow: on a segment, on crossing parts, on a point off the grid, on rounded coordinates, or on an open side
+-- lines on the model follow: on a segment, on crossing parts, on a point off the grid, on points in one plane, on rounded coordinates, or on
+-- an open side
 abbrev pub has_hint : Status → Bool
 has_hint (Limit (Grid line)) = true
 has_hint Flat = true

@@ -1,7 +1,7 @@
 -- The status of a run of `tetfit`, the files that it leaves, and its messages.
 use Rattle.std.specs.Prelude.{◌≡◌, ◌≢◌, ◌≤◌, ℕ, IsTrue, false, List, Option, Some, None, Ok, Err}
 use Rattle.command_words.specs.declared.options.Options.{Options}
-use Rattle.tetfit_run.specs.Hints.{IsHint, IsHintBy, moved_text, off_grid_text, rounding_text}
+use Rattle.tetfit_run.specs.Hints.{IsHint, IsHintBy, flat_text, moved_text, off_grid_text}
 use Rattle.tetfit_run.specs.Measured.{BoundTried, origin_in, tried, with_origin}
 use Rattle.grid_coords.specs.declared.origin.WholePoint.{WholePoint}
 use Rattle.tetfit_run.specs.Models.{IsStatedBy, ModelAnswer}
@@ -136,7 +136,7 @@ IsFitNumbering words = IsNumberingOf (fit_options words)
 
 -- The lines that follow a message that prints no points. For a model off the grid, the first point that is off it with coordinates
 -- rounded to whole numbers is reported: its place in the file, by the line, or by the facet of a binary file, and its coordinates. For
--- points in one plane, that they were rounded, where they were. For a mesh without a tetrahedron, which side is open, that each side is
+-- points in one plane, that they are, or that the file has none, and that they were rounded, where they were. For a mesh without a tetrahedron, which side is open, that each side is
 -- shared, or that hole points carve all of it
 abbrev pub TellsUnnamed : Options → FolderSeen → List ℕ → Status → Type 0
 TellsUnnamed options folder hint (Limit (Grid line)) =
@@ -146,7 +146,7 @@ TellsUnnamed options folder hint (Limit (Grid line)) =
 TellsUnnamed options folder hint Flat =
     (input : Input) × ModelAnswer fit_limits folder options (Ok input)
     × (m : ℕ) × IsFitted fit_limits (with_origin input options) input m (Err Flat)
-    × (hint ≡ rounding_text (at_decimals m (with_origin input options)) input.nodes.decimals)
+    × (hint ≡ flat_text (at_decimals m (with_origin input options)) input.nodes.decimals)
 TellsUnnamed options folder hint Empty =
     (input : Input) × ModelAnswer fit_limits folder options (Ok input)
     × (m : ℕ) × IsEmptyAt (with_origin input options) input m

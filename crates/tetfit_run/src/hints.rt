@@ -6,7 +6,7 @@ ghost use Rattle.grid_coords.specs.Origins.{IsNear};
 ghost use Rattle.node_files.specs.Limits.{AreIndexable};
 ghost use Rattle.run_steps.specs.Reading.{IsSound};
 ghost use Rattle.tetfit_run.specs.Hints.{hinted_facet_text, first_facet, grid_hint, parts_text};
-ghost use Rattle.tetfit_run.specs.Hints.{half_unit, moved_line, moved_text};
+ghost use Rattle.tetfit_run.specs.Hints.{flat_line, flat_text, half_unit, moved_line, moved_text};
 ghost use Rattle.tetfit_run.specs.Hints.{rounded_line, rounded_text, rounding_text};
 ghost use Rattle.tetfit_run.specs.Hints.{segment_line, HasPoints, IsHint, IsHintBy, IsLineOf};
 ghost use Rattle.tetfit_run.specs.Hints.{IsMissing, TellsSegment};
@@ -180,6 +180,29 @@ fn rounding_hint(alloc: Global, trial: &Trial) -> Result<Bytes, NoMemory>
     Ok(text)
 }
 
+/// The line on points that span no tetrahedron.
+fn flat_line(points: &[DecimalPoint]) -> &'static [u8]
+    ensures { result.now ≡ flat_line points.now }
+{
+    if points.is_empty() {
+        b"tetfit: nothing to mesh: the file has no points and no facets\n"
+    } else {
+        b"tetfit: all points lie in one plane\n"
+    }
+}
+
+/// The lines on points that span no tetrahedron: that all lie in one plane, or that there are none,
+/// and that coordinates were rounded, where they were.
+fn flat_hint(alloc: Global, trial: &Trial) -> Result<Bytes, NoMemory>
+    ensures { IfOk result (λ lines. lines
+        ≡ flat_text trial.now.options trial.now.input.nodes.decimals) }
+{
+    let points = trial.input.nodes.decimals.as_slice();
+    let mut text = Bytes::from_slice(alloc, flat_line(points))?;
+    append_rounding(&mut text, trial.options, points)?;
+    Ok(text)
+}
+
 /// The lines of two crossing parts with the coordinates of their corners, and that coordinates were
 /// rounded, where they were.
 fn parts_hint(
@@ -209,7 +232,7 @@ fn hint_by(alloc: Global, trial: &Trial, by: &Numbering, status: &Status) -> Res
         trial.now.input by.now status.now) }
 {
     match status {
-        Status::Flat => rounding_hint(alloc, trial),
+        Status::Flat => flat_hint(alloc, trial),
         Status::NotFlat { facet: _, four: _ } => rounding_hint(alloc, trial),
         Status::SegmentsCross { one, two } => {
             parts_hint(alloc, trial, by, Part::Segment(*one), Part::Segment(*two))

@@ -78,8 +78,8 @@ fn help_of(status: &Status) -> &'static [u8]
     }
 }
 
-/// The line of a refusal, from all words of the command, `-V` included. A point off the grid is
-/// reported in the lines that follow, with its coordinates.
+/// The line of a refusal, from all words of the command, `-V` included. A point off the grid and
+/// points in one plane are reported in the lines that follow.
 fn line_of(
     alloc: Global,
     words: &Words,
@@ -96,12 +96,13 @@ fn line_of(
         Status::Limit {
             what: LimitKind::Grid { line: _ },
         } => Ok(Bytes::new(alloc)),
+        Status::Flat => Ok(Bytes::new(alloc)),
         _ => message(alloc, NAME, by, status),
     }
 }
 
 /// Whether lines on the model follow: on a segment, on crossing parts, on a point off the grid, on
-/// rounded coordinates, or on an open side.
+/// points in one plane, on rounded coordinates, or on an open side.
 fn has_hint(status: &Status) -> bool
     ensures { result ≡ has_hint status.now }
 {

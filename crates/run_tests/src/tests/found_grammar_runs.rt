@@ -24,7 +24,7 @@ const ELE: &[u8] = b"1 4 0\n0 0 1 2 3\n";
 const TETRAHEDRON: &[u8] = b"points 4 added 0 tetrahedra 1 faces 4 edges 6 decimals 0\n";
 
 const NONE: &[u8] = b"\
-tetfit: all points lie in one plane\n\
+tetfit: nothing to mesh: the file has no points and no facets\n\
 tetfit: four points that are not in one plane are wanted\n";
 
 static SURFACES: [Run<'static>; 3] = [
