@@ -44,8 +44,8 @@ line_of words by (Limit (Grid line)) = []
 line_of words by Flat = []
 line_of words by status = message_of tetfit_name by status
 
--- lines on the model follow: on a segment, on crossing parts, on a point off the grid, on points in one plane, on rounded coordinates, or on
--- an open side
+-- lines on the model follow: on a segment, on crossing parts, on a point off the grid, on points in one plane, on rounded
+-- coordinates, or on an open side
 abbrev pub has_hint : Status → Bool
 has_hint (Limit (Grid line)) = true
 has_hint Flat = true

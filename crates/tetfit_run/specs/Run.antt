@@ -136,8 +136,8 @@ IsFitNumbering words = IsNumberingOf (fit_options words)
 
 -- The lines that follow a message that prints no points. For a model off the grid, the first point that is off it with coordinates
 -- rounded to whole numbers is reported: its place in the file, by the line, or by the facet of a binary file, and its coordinates. For
--- points in one plane, that they are, or that the file has none, and that they were rounded, where they were. For a mesh without a tetrahedron, which side is open, that each side is
--- shared, or that hole points carve all of it
+-- points in one plane, that they are, or that the file has none, and that they were rounded, where they were. For a mesh without a
+-- tetrahedron, which side is open, that each side is shared, or that hole points carve all of it
 abbrev pub TellsUnnamed : Options → FolderSeen → List ℕ → Status → Type 0
 TellsUnnamed options folder hint (Limit (Grid line)) =
     (input : Input) × ModelAnswer fit_limits folder options (Ok input)
