@@ -3,3 +3,4 @@ pub mod Center
 pub mod Counts
 pub mod Slim
 pub mod Volumes
+pub mod Thresholds

@@ -1,5 +1,5 @@
 -- How small the dihedral angles of a tetrahedron are.
-use Rattle.std.specs.Prelude.{ℕ, Bool, ◌&&◌, ◌||◌, List, [], ◌∷◌, ℤ, pos, ◌*ℤ◌, int_lt, count_by, slice_index_or}
+use Rattle.std.specs.Prelude.{ℕ, Bool, ◌&&◌, ◌||◌, List, [], ◌∷◌, pos, ◌*ℤ◌, int_lt, count_by, slice_index_or}
 use Rattle.sign_predicates.specs.Point.{Point, from_to}
 use Rattle.sign_predicates.specs.Orientation.{cross, dot}
 use Rattle.sign_predicates.specs.Sphere.{square_length}

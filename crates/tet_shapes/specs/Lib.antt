@@ -6,3 +6,4 @@ pub mod Laws
 pub mod Volume
 pub mod Bounds
 pub mod Angle
+pub mod Worst

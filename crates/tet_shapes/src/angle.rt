@@ -68,7 +68,7 @@ fn is_sharp(a: GridPoint, b: GridPoint, c: GridPoint, d: GridPoint, bound: Ratio
 
 /// Whether a dihedral angle of the tetrahedron with these corners is below that.
 #[tactic(auto, unfolding(crate::specs::Angle::is_flat))]
-fn is_flat_at(t: Corners, bound: Ratio) -> bool
+pub(crate) fn is_flat_at(t: Corners, bound: Ratio) -> bool
     ensures { result ≡ is_flat bound t }
 {
     let Corners { a, b, c, d } = t;

@@ -9,9 +9,11 @@ mod shape;
 mod vector;
 mod volume;
 mod wide;
+mod worst;
 
 pub use angle::squared_cosine;
 pub use bounds::{VolumeBounds, mark_at, volume_bounds};
 pub use count::{count_flat, count_large, count_slim};
 pub use laws::{law_circumcenter, law_radius, law_slim};
 pub use shape::{Ratio, is_large, is_slim, is_slim_at};
+pub use worst::{GreatestRatio, LeastAngle, greatest_ratio, least_angle};

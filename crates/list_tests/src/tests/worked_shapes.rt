@@ -9,8 +9,8 @@ use sign_predicates::{Corners, GridPoint};
 use std::alloc::Global;
 use tet_ports::{Items, NoMemory};
 use tet_shapes::{
-    Ratio, VolumeBounds, count_flat, count_large, count_slim, is_large, is_slim, is_slim_at,
-    squared_cosine,
+    Ratio, VolumeBounds, count_flat, count_large, count_slim, greatest_ratio, is_large, is_slim,
+    is_slim_at, least_angle, squared_cosine,
 };
 
 /// The greatest size of a coordinate, and the least coordinate.
@@ -236,6 +236,54 @@ fn flat_rows(alloc: Global, degrees: u32) -> Option<usize> {
 fn flat_rows_by_degrees(rt: HostRuntime) {
     for (degrees, flat) in [(12, 0), (13, 1), (30, 1)] {
         assert!(rt; flat_rows(rt.alloc(), degrees) == Some(flat), "{degrees}");
+    }
+}
+
+/// The least dihedral angle, where one is below `most` degrees, and the place of its row.
+fn least_at(alloc: Global, most: u32) -> Option<(u32, usize)> {
+    let points = points(alloc)?;
+    let Ok(rows) = rows(alloc, &points) else {
+        return None;
+    };
+    let least = least_angle(&points, &rows, most)?;
+    Some((least.degrees, least.place))
+}
+
+/// The row in the middle has the least angle.
+#[test]
+fn row_of_the_least_angle(rt: HostRuntime) {
+    assert!(rt; least_at(rt.alloc(), 12).is_none());
+    for most in [13, 30, 60] {
+        assert!(rt; least_at(rt.alloc(), most) == Some((12, 1)), "{most}");
+    }
+}
+
+/// The greatest ratio, by the doublings of another one, and the place of its row.
+fn greatest_at(alloc: Global, over: u32, under: u32) -> Option<(u32, usize)> {
+    let points = points(alloc)?;
+    let Ok(rows) = rows(alloc, &points) else {
+        return None;
+    };
+    let greatest = greatest_ratio(&points, &rows, ratio(over, under)?)?;
+    Some((greatest.doublings, greatest.place))
+}
+
+/// The ratios are 1.50, 2.88 and 1.22. One half in the finest terms is doubled once at most, and
+/// then the first row is over it.
+static GREATEST: [(u32, u32, Option<(u32, usize)>); 6] = [
+    (3, 1, None),
+    (288, 100, Some((0, 1))),
+    (3, 2, Some((0, 1))),
+    (1, 1, Some((1, 1))),
+    (1, 100, Some((8, 1))),
+    (524_288, 1_048_576, Some((1, 0))),
+];
+
+#[test]
+fn row_of_the_greatest_ratio(rt: HostRuntime) {
+    for (over, under, want) in &GREATEST {
+        let found = greatest_at(rt.alloc(), *over, *under);
+        assert!(rt; found == *want, "{over} / {under}");
     }
 }
 
