@@ -164,6 +164,12 @@ moved_text m points = if nat_lt m (most_decimals points) then moved_line m else 
 
 -- ---- the lines
 
+-- the line on the segment, and the line on rounded coordinates
+abbrev pub TellsRounded : Limits → Options → Input → Numbering → Piece → List ℕ → Type 0
+TellsRounded limits options input by piece lines =
+    (line : List ℕ) × TellsSegment limits options input by piece line
+    × (lines ≡ line ++ rounding_text options input.nodes.decimals)
+
 -- the lines of two parts, and the line on rounded coordinates
 abbrev pub parts_text : Options → List DecimalPoint → Numbering → Part → Part → List ℕ
 parts_text options points by one two = part_line points by one ++ part_line points by two ++ rounding_text options points
@@ -176,7 +182,7 @@ IsHintBy limits options input by (NotFlat facet four) lines = lines ≡ rounding
 IsHintBy limits options input by (SegmentsCross one two) lines =
     lines ≡ parts_text options input.nodes.decimals by (SegmentPart one) (SegmentPart two)
 IsHintBy limits options input by (Crossing one two) lines = lines ≡ parts_text options input.nodes.decimals by one two
-IsHintBy limits options input by (GridEnd piece) lines = TellsSegment limits options input by piece lines
+IsHintBy limits options input by (GridEnd piece) lines = TellsRounded limits options input by piece lines
 IsHintBy limits options input by (BudgetEnd made piece) lines = TellsSegment limits options input by piece lines
 IsHintBy limits options input by status lines = lines ≡ []
 

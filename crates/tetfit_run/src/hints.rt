@@ -9,7 +9,7 @@ ghost use Rattle.tetfit_run.specs.Hints.{hinted_facet_text, first_facet, grid_hi
 ghost use Rattle.tetfit_run.specs.Hints.{flat_line, flat_text, half_unit, moved_line, moved_text};
 ghost use Rattle.tetfit_run.specs.Hints.{rounded_line, rounded_text, rounding_text};
 ghost use Rattle.tetfit_run.specs.Hints.{segment_line, HasPoints, IsHint, IsHintBy, IsLineOf};
-ghost use Rattle.tetfit_run.specs.Hints.{IsMissing, TellsSegment};
+ghost use Rattle.tetfit_run.specs.Hints.{IsMissing, TellsRounded, TellsSegment};
 ghost use Rattle.tetfit_run.specs.Trial.{AreInTriedRange};
 ghost use Rattle.tetfit_run.specs.Trying.{at_decimals, IsNumbered, IsNumberedAt};
 
@@ -133,6 +133,30 @@ fn append_rounding(
     }
 }
 
+/// The line that names the segment on which a missing subsegment lies, and that coordinates were
+/// rounded, where they were.
+fn rounded_segment_hint(
+    alloc: Global,
+    trial: &Trial,
+    by: &Numbering,
+    piece: Piece,
+) -> Result<Bytes, NoMemory>
+    requires few { trial.now.options.budget ≤ 100000 }
+    requires points { HasPoints trial.now.limits trial.now.options trial.now.input
+        (length by.now.names) }
+    requires missing { IsMissing trial.now.limits trial.now.options trial.now.input piece }
+    ensures { IfOk result (TellsRounded trial.now.limits trial.now.options
+        trial.now.input by.now piece) }
+{
+    let mut text = segment_hint(alloc, trial, by, piece)?;
+    append_rounding(
+        &mut text,
+        trial.options,
+        trial.input.nodes.decimals.as_slice(),
+    )?;
+    Ok(text)
+}
+
 /// Appends half a unit of the last of `decimals` decimals.
 #[tactic(auto, unfolding(crate::specs::Hints::half_unit))]
 fn append_half(text: &mut Bytes, decimals: u32) -> Result<(), NoMemory>
@@ -238,7 +262,7 @@ fn hint_by(alloc: Global, trial: &Trial, by: &Numbering, status: &Status) -> Res
             parts_hint(alloc, trial, by, Part::Segment(*one), Part::Segment(*two))
         }
         Status::Crossing { one, two } => parts_hint(alloc, trial, by, *one, *two),
-        Status::GridEnd { piece } => segment_hint(alloc, trial, by, *piece),
+        Status::GridEnd { piece } => rounded_segment_hint(alloc, trial, by, *piece),
         Status::BudgetEnd { made: _, piece } => segment_hint(alloc, trial, by, *piece),
         _ => Ok(Bytes::new(alloc)),
     }
@@ -269,11 +293,11 @@ fn grid_hint(
 }
 
 /// The lines that follow the message on a refused model: the segment of the input on which a
-/// missing subsegment lies; the coordinates of the crossing parts; or the place and the coordinates
-/// of the first point off the grid. Where points lie in one plane, a facet is not flat or parts
-/// cross, and the file has more decimals than are tried, they end with both numbers. The segment is
-/// found by meshing again with fewer points added: each such run ends at the subsegment that the
-/// next point halves.
+/// missing subsegment lies; the coordinates of the crossing parts; that points lie in one plane; or
+/// the place and the coordinates of the first point off the grid. Where points lie in one plane, a
+/// facet is not flat, parts cross or the grid is too coarse for a subsegment, and the file has more
+/// decimals than are tried, they end with both numbers. The segment is found by meshing again with
+/// fewer points added: each such run ends at the subsegment that the next point halves.
 pub fn hint_of(
     alloc: Global,
     limits: Limits,
