@@ -10,7 +10,7 @@ use Rattle.tetfit_run.specs.Models.{ModelAnswer, ModelBy, ReadAnswer, SurfaceAns
 use Rattle.tetfit_run.specs.Trying.{IsFitted, at_decimals, is_of_grid}
 use Rattle.tetfit_run.specs.Words.{fit_fault, others, request_of}
 use Rattle.tetfit_run.specs.declared.request.Request.{Request}
-use Rattle.tetfit_run.specs.declared.request.Request.TheVariants.{Page, Version, Mesh}
+use Rattle.tetfit_run.specs.declared.request.Request.TheVariants.{Page, Version, Check, Mesh}
 use Rattle.tetfit_run.specs.declared.wanted.Wanted.{Wanted}
 use Rattle.run_steps.proofs.Once.{IsTold, bounded_once, fetch_once, input_once, meshed_same, nodes_once, text_once}
 use Rattle.run_steps.proofs.Steps.{IsDecided, IsOnce, IsSameBy, and_then_once, and_then_same_by, gives_once, status_by, status_of}
@@ -23,6 +23,7 @@ use Rattle.run_steps.specs.declared.status.Status.{Status}
 use Rattle.run_steps.specs.declared.status.Status.TheVariants.{Usage, Empty, NoFill, NoMemory}
 use Rattle.tet_ports.specs.Files.{Files}
 use Rattle.tetgen_run.proofs.Endings.{answers_same_by}
+use Rattle.tetfit_run.proofs.CheckedRuns.{check_same}
 use Rattle.tetfit_run.specs.Outputs.{FitWordsAnswer, IsFitUsage, IsFittedTo, MadeBy, OutputsOfFit, Says, fit_limits, wanted_from}
 use Rattle.tetfit_run.specs.Run.{IsFitAnswer, IsFitComplete, meshed_answer}
 
@@ -138,6 +139,7 @@ says_same text (Ok a) (Err t) c d h k = absurd (d k)
 made_same : (request : Request) (told : Files) (words : List (List ℕ)) (seen : FolderSeen) → IsTold told seen → IsSameBy read_status (MadeBy request words seen)
 made_same Page told words seen h = says_same _
 made_same Version told words seen h = says_same _
+made_same Check told words seen h = check_same read_status refl told (others words) seen h
 made_same Mesh told words seen h =
     and_then_same_by read_status (FitWordsAnswer (others words)) (λ wanted. AndThen (ModelAnswer fit_limits seen wanted.options) (λ input. IsFittedTo (wanted_from input wanted) input)) (words_once (others words))
     (λ wanted. and_then_same_by read_status (ModelAnswer fit_limits seen wanted.options) (λ input. IsFittedTo (wanted_from input wanted) input) (model_once told seen wanted.options h) (λ input. fitted_same (wanted_from input wanted) input))

@@ -14,11 +14,12 @@ use Rattle.tetfit_run.specs.Trying.{IsFitted, IsNumbered, IsRefused, at_decimals
 use Rattle.tetfit_run.specs.declared.fitting.Refused.{Refused as Unfit}
 use Rattle.node_files.specs.declared.limits.Limits.{Limits}
 use Rattle.refining.specs.declared.goal.Goal.{Goal}
+use Rattle.tetfit_run.proofs.CheckedRuns.{check_refuses, check_wider}
 use Rattle.tetfit_run.proofs.RefinedRuns.{refined_mesh_by}
 use Rattle.tetfit_run.specs.Words.{fit_fault, fit_goal, fit_options, others, request_of}
 use Rattle.tetfit_run.specs.declared.wanted.Wanted.{Wanted}
 use Rattle.tetfit_run.specs.declared.request.Request.{Request}
-use Rattle.tetfit_run.specs.declared.request.Request.TheVariants.{Page, Version, Mesh}
+use Rattle.tetfit_run.specs.declared.request.Request.TheVariants.{Page, Version, Check, Mesh}
 use Rattle.run_steps.proofs.Steps.{and_then_refuses, and_then_wider}
 use Rattle.tet_ports.proofs.Windows.{IsWithin}
 use Rattle.tet_ports.specs.Seen.{FolderSeen, SinkSeen}
@@ -27,7 +28,7 @@ use Rattle.run_steps.specs.declared.numbering.Numbering.{Numbering}
 use Rattle.run_steps.specs.declared.outputs.Outputs.{Outputs}
 use Rattle.run_steps.specs.declared.status.LimitKind.TheVariants.{Grid}
 use Rattle.run_steps.specs.declared.status.Status.{Status}
-use Rattle.run_steps.specs.declared.status.Status.TheVariants.{Usage, Empty, Limit, Flat, NoMemory}
+use Rattle.run_steps.specs.declared.status.Status.TheVariants.{Usage, Empty, Limit, Flat, NoMemory, WriteFault}
 use Rattle.tetgen_run.proofs.Endings.{NumbersPoints, Refuses}
 use Rattle.tetgen_run.proofs.Refusals.{IsRefusal, IsSilent, not_true, step_refuses}
 use Rattle.tetgen_run.proofs.Runs.{bound_silent, mesh_by, meshed_refuses}
@@ -35,9 +36,10 @@ use Rattle.tetgen_run.specs.Ends.{EndsWith, IsToldAs, StopsSo, answer_of}
 use Rattle.tetgen_run.specs.Stops.{stop_of_words}
 use Rattle.tetgen_run.specs.declared.stop.Stop.{Stop}
 use Rattle.tetgen_run.specs.declared.stop.Stop.TheVariants.{Refused, Unwritten, Unsummed, NoMemory as Wanting}
+use Rattle.tetfit_run.specs.Checks.{OutputsOfCheck}
 use Rattle.tetfit_run.specs.Outputs.{FitWordsAnswer, IsFinalBy, IsFitUsage, IsFittedTo, MadeBy, OutputsOfFit, OutputsOfModel, OutputsOfWanted, fit_limits, outputs_at, wanted_from}
 use Rattle.tetfit_run.specs.Measured.{origin_in, tried, with_origin}
-use Rattle.tetfit_run.specs.Run.{IsAskedBy, IsFinalMesh, IsKnown, IsKnownOf, IsMeshOfModel, IsFitNumbering, IsNumberingOf, IsTriedOf, IsUnfitted, TellsEmpty, TellsUnnamed, options_from}
+use Rattle.tetfit_run.specs.Run.{IsAskedBy, IsFinalMesh, IsKnown, IsKnownBy, IsKnownOf, IsMeshOfModel, IsFitNumbering, IsNumberingOf, IsTriedOf, IsUnfitted, TellsBehind, TellsEmpty, TellsUnnamed, options_from}
 
 -- ---- answers
 
@@ -75,6 +77,7 @@ outputs_refuse words folder =
 made_refuses : (request : Request) (words : List (List ℕ)) (folder : FolderSeen) (s : Status) → MadeBy request words folder (Err s) → IsRefusal s
 made_refuses Page words folder s h = subst IsRefusal (sym h) tt
 made_refuses Version words folder s h = subst IsRefusal (sym h) tt
+made_refuses Check words folder s h = check_refuses (others words) folder s h
 made_refuses Mesh words folder s h = outputs_refuse (others words) folder s h
 
 pub fit_refuses : (words : List (List ℕ)) (folder : FolderSeen) → Refuses (OutputsOfFit words folder)
@@ -128,6 +131,13 @@ unnamed folder options model hint m Flat (Some by) r w f n h = (model.input, r, 
 unnamed folder options model hint m Empty by r w f n h = absurd (meshed_refuses fit_limits (at_decimals m (with_origin model.input options)) (tried (at_decimals m (with_origin model.input options)) model.input) Empty f.answer)
 unnamed folder options model hint m s by r w f n h = tt
 
+-- behind the message of a check no line follows
+pub no_behind : (request : Request) (folder : FolderSeen) (options : Options) (hint : List ℕ) (s : Status) → HasNoLine s → TellsBehind request options folder hint s
+no_behind Page folder options hint s h = no_line folder options hint s h
+no_behind Version folder options hint s h = no_line folder options hint s h
+no_behind Check folder options hint s h = tt
+no_behind Mesh folder options hint s h = no_line folder options hint s h
+
 -- the refusal of what is fitted, with what more is told of it
 unfitted_by : (options : Options) (model : Model) (m : ℕ) (s : Status) (by : Option Numbering) (hint : List ℕ) → IsFitted fit_limits options model.input m (Err s) → IsNumbered fit_limits (at_decimals m options) model.input s by
     → IsHint fit_limits model.stated (at_decimals m options) model.input by s hint → IsUnfitted options model hint (Refused s by)
@@ -170,15 +180,28 @@ unfitted_stops folder wanted model hint (Unwritten text) r w h = absurd h
 unfitted_stops folder wanted model hint Unsummed r w h = absurd h
 unfitted_stops folder wanted model hint Wanting r w h = tt
 
+-- a check names no point and has no line behind its message
+pub check_known : (words : List (List ℕ)) (folder : FolderSeen) (hint : List ℕ) (stop : Stop) → request_of words ≡ Check
+    → StopsSo (OutputsOfCheck (others words) folder) (λ status by. IsSilent status) stop → StopsSo (OutputsOfFit words folder) (IsKnown words folder hint) stop
+check_known words folder hint stop asked h =
+    subst (λ request. StopsSo (MadeBy request words folder) (IsKnownBy request (fit_options (others words)) folder hint) stop) (sym asked) (known stop h)
+  where
+    known : (stop : Stop) → StopsSo (OutputsOfCheck (others words) folder) (λ status by. IsSilent status) stop
+        → StopsSo (MadeBy Check words folder) (IsKnownBy Check (fit_options (others words)) folder hint) stop
+    known (Refused s by) h = (h.0, (numbers_of (fit_options (others words)) folder hint s by h.1, tt))
+    known (Unwritten text) h = absurd h
+    known Unsummed h = absurd h
+    known Wanting h = tt
+
 -- where the words are not understood
 pub usage_stops : (words : List (List ℕ)) (folder : FolderSeen) (hint : List ℕ) (answer : Result Wanted WordsFault) (f : WordsFault) → answer ≡ Err f
-    → ((word place : ℕ) → answer ≡ Err (Misunderstood word place) → fit_fault words ≡ Some (word, place)) → StopsSo (OutputsOfModel words folder) (IsKnown words folder hint) (stop_of_words f)
+    → ((word place : ℕ) → answer ≡ Err (Misunderstood word place) → fit_fault words ≡ Some (word, place)) → StopsSo (OutputsOfModel words folder) (IsKnownOf (fit_options words) folder hint) (stop_of_words f)
 usage_stops words folder hint answer (Misunderstood word place) e usage = (inl (usage word place e), (numbers_points words folder hint (Usage word place) None refl, tt))
 usage_stops words folder hint answer WordsWanting e usage = tt
 
 -- where they are
 pub wanted_stop : (words : List (List ℕ)) (folder : FolderSeen) (hint : List ℕ) (wanted : Wanted) (stop : Stop) → FitWordsAnswer words (Ok wanted)
-    → StopsSo (OutputsOfWanted wanted folder) (IsKnownOf wanted.options folder hint) stop → StopsSo (OutputsOfModel words folder) (IsKnown words folder hint) stop
+    → StopsSo (OutputsOfWanted wanted folder) (IsKnownOf wanted.options folder hint) stop → StopsSo (OutputsOfModel words folder) (IsKnownOf (fit_options words) folder hint) stop
 wanted_stop words folder hint wanted (Refused s by) w h = (inr (wanted, w, h.0), subst (λ (q : Wanted). IsKnownOf q.options folder hint s by) w.1 h.1)
 wanted_stop words folder hint wanted (Unwritten text) w h = absurd h
 wanted_stop words folder hint wanted Unsummed w h = absurd h
@@ -187,25 +210,25 @@ wanted_stop words folder hint wanted Wanting w h = tt
 -- ---- what is told
 
 -- what is known of the numbers
-pub ends_numbered : (Made : Result Outputs Status → Type 0) (words : List (List ℕ)) (folder : FolderSeen) (hint : List ℕ) (out : SinkSeen) (stop : Stop)
-    → EndsWith Made (IsKnown words folder hint) folder out (Err stop) → EndsWith Made (IsFitNumbering words folder hint) folder out (Err stop)
-ends_numbered Made words folder hint out (Refused s by) h = (h.0, h.1, h.2.0)
-ends_numbered Made words folder hint out (Unwritten text) h = h
-ends_numbered Made words folder hint out Unsummed h = h
-ends_numbered Made words folder hint out Wanting h = h
+pub ends_numbered : (Made : Result Outputs Status → Type 0) (request : Request) (options : Options) (folder : FolderSeen) (hint : List ℕ) (out : SinkSeen) (stop : Stop)
+    → EndsWith Made (IsKnownBy request options folder hint) folder out (Err stop) → EndsWith Made (IsNumberingOf options folder hint) folder out (Err stop)
+ends_numbered Made request options folder hint out (Refused s by) h = (h.0, h.1, h.2.0)
+ends_numbered Made request options folder hint out (Unwritten text) h = h
+ends_numbered Made request options folder hint out Unsummed h = h
+ends_numbered Made request options folder hint out Wanting h = h
 
-stop_unnamed : (Made : Result Outputs Status → Type 0) (words : List (List ℕ)) (folder : FolderSeen) (hint : List ℕ) (out : SinkSeen) (stop : Stop)
-    → EndsWith Made (IsKnown words folder hint) folder out (Err stop) → TellsUnnamed (fit_options words) folder hint (answer_of (Err stop))
-stop_unnamed Made words folder hint out (Refused s by) h = h.2.1
-stop_unnamed Made words folder hint out (Unwritten text) h = tt
-stop_unnamed Made words folder hint out Unsummed h = tt
-stop_unnamed Made words folder hint out Wanting h = tt
+stop_behind : (Made : Result Outputs Status → Type 0) (request : Request) (options : Options) (folder : FolderSeen) (hint : List ℕ) (out : SinkSeen) (stop : Stop)
+    → EndsWith Made (IsKnownBy request options folder hint) folder out (Err stop) → TellsBehind request options folder hint (answer_of (Err stop))
+stop_behind Made request options folder hint out (Refused s by) h = h.2.1
+stop_behind Made request options folder hint out (Unwritten text) h = no_behind request folder options hint (WriteFault (Some text.name)) tt
+stop_behind Made request options folder hint out Unsummed h = no_behind request folder options hint (WriteFault None) tt
+stop_behind Made request options folder hint out Wanting h = no_behind request folder options hint NoMemory tt
 
 -- and of the lines behind a message that prints no points
-pub told_unnamed : (Made : Result Outputs Status → Type 0) (message : Option Numbering → Status → List ℕ) (words : List (List ℕ)) (folder : FolderSeen) (hint : List ℕ) (out err : SinkSeen) (stop : Stop) (s : Status)
-    → EndsWith Made (IsKnown words folder hint) folder out (Err stop) → IsToldAs message stop err s → TellsUnnamed (fit_options words) folder hint s
-told_unnamed Made message words folder hint out err stop s h (inl told) = subst (TellsUnnamed (fit_options words) folder hint) (sym told.0) (stop_unnamed Made words folder hint out stop h)
-told_unnamed Made message words folder hint out err stop s h (inr told) = subst (TellsUnnamed (fit_options words) folder hint) (sym told.0) tt
+pub told_behind : (Made : Result Outputs Status → Type 0) (message : Option Numbering → Status → List ℕ) (request : Request) (options : Options) (folder : FolderSeen) (hint : List ℕ) (out err : SinkSeen) (stop : Stop) (s : Status)
+    → EndsWith Made (IsKnownBy request options folder hint) folder out (Err stop) → IsToldAs message stop err s → TellsBehind request options folder hint s
+told_behind Made message request options folder hint out err stop s h (inl told) = subst (TellsBehind request options folder hint) (sym told.0) (stop_behind Made request options folder hint out stop h)
+told_behind Made message request options folder hint out err stop s h (inr told) = subst (TellsBehind request options folder hint) (sym told.0) (no_behind request folder options hint NoMemory tt)
 
 pub wanted_made : (words : List (List ℕ)) (folder : FolderSeen) (wanted : Wanted) (outputs : Outputs) → FitWordsAnswer words (Ok wanted) → OutputsOfWanted wanted folder (Ok outputs)
     → OutputsOfModel words folder (Ok outputs)
@@ -256,6 +279,7 @@ model_mesh words folder outputs h =
 asked_by : (request : Request) (words : List (List ℕ)) (folder : FolderSeen) (outputs : Outputs) → MadeBy request words folder (Ok outputs) → IsAskedBy request words folder outputs
 asked_by Page words folder outputs h = h
 asked_by Version words folder outputs h = h
+asked_by Check words folder outputs h = h
 asked_by Mesh words folder outputs h = model_mesh (others words) folder outputs h
 
 pub fit_asked : (words : List (List ℕ)) (folder : FolderSeen) (outputs : Outputs) → OutputsOfFit words folder (Ok outputs) → IsAskedBy (request_of words) words folder outputs
@@ -266,6 +290,7 @@ fit_asked words folder = asked_by (request_of words) words folder
 made_wider : (request : Request) (words : List (List ℕ)) (part wide : FolderSeen) → IsWithin part wide → (r : Result Outputs Status) → MadeBy request words part r → MadeBy request words wide r
 made_wider Page words part wide w r h = h
 made_wider Version words part wide w r h = h
+made_wider Check words part wide w r h = check_wider (others words) part wide w r h
 made_wider Mesh words part wide w r h =
     and_then_wider (FitWordsAnswer (others words)) (FitWordsAnswer (others words)) (λ wanted. OutputsOfWanted wanted part) (λ wanted. OutputsOfWanted wanted wide) (λ r h. h)
     (λ wanted. and_then_wider (ModelAnswer fit_limits part wanted.options) (ModelAnswer fit_limits wide wanted.options) (λ input. IsFittedTo (wanted_from input wanted) input)

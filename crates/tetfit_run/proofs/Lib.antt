@@ -1,4 +1,5 @@
 mod Measured
+pub mod CheckedRuns
 pub mod Complete
 pub mod Fitted
 pub mod Pieces

@@ -11,12 +11,31 @@ use Rattle.tetgen_run.specs.Ends.{FinishesSo, IsToldAs, StopsSo, answer_of}
 use Rattle.tetgen_run.specs.declared.stop.Stop.{Stop}
 use Rattle.tetgen_run.specs.declared.stop.Stop.TheVariants.{Refused, Unwritten, Unsummed, NoMemory as Wanting}
 use Rattle.refining.specs.declared.watch.Round.{Round}
+use Rattle.run_steps.specs.Messages.{message_of}
+use Rattle.tetfit_run.specs.Messages.{fit_message, tetfit_name}
 use Rattle.tetfit_run.specs.Said.{said_both}
+use Rattle.tetfit_run.specs.declared.request.Request.{Request}
+use Rattle.tetfit_run.specs.declared.request.Request.TheVariants.{Page, Version, Check, Mesh}
 use Rattle.tetfit_run.specs.Stages.{AreStagesPut, IsMadeAt, IsSaid, rounds_text, stage_text}
 
 -- a line with no hint and no help behind it
 pub nothing_behind : (line : List ℕ) → line ++ [] ++ [] ≡ line
 nothing_behind line = append-nil (line ++ []) ∙ append-nil line
+
+-- no line follows that of a fault of the summary or of a store, or of want of memory, whatever is asked for
+pub unwritten_told : (request : Request) (words : List (List ℕ)) (hint : List ℕ) (by : Option Numbering) (name : Option (List ℕ))
+    → fit_message request words hint by (WriteFault name) ≡ message_of tetfit_name by (WriteFault name)
+unwritten_told Page words hint by name = nothing_behind (message_of tetfit_name by (WriteFault name))
+unwritten_told Version words hint by name = nothing_behind (message_of tetfit_name by (WriteFault name))
+unwritten_told Check words hint by name = refl
+unwritten_told Mesh words hint by name = nothing_behind (message_of tetfit_name by (WriteFault name))
+
+pub wanting_told : (request : Request) (words : List (List ℕ)) (hint : List ℕ) (by : Option Numbering)
+    → fit_message request words hint by NoMemory ≡ message_of tetfit_name by NoMemory
+wanting_told Page words hint by = nothing_behind (message_of tetfit_name by NoMemory)
+wanting_told Version words hint by = nothing_behind (message_of tetfit_name by NoMemory)
+wanting_told Check words hint by = refl
+wanting_told Mesh words hint by = nothing_behind (message_of tetfit_name by NoMemory)
 
 -- ---- stages
 

@@ -1,3 +1,4 @@
+pub mod Checks
 pub mod Messages
 pub mod Outputs
 pub mod Refined

@@ -1,6 +1,8 @@
 -- The lines that report each refusal.
 use Rattle.std.specs.Prelude.{ℕ, Bool, true, false, List, [], ◌++◌, nat_lt, codes, Option, if◌then◌else◌}
-use Rattle.tetfit_run.specs.Texts.{refused_line}
+use Rattle.tetfit_run.specs.Texts.{refused_check_line, refused_line}
+use Rattle.tetfit_run.specs.declared.request.Request.{Request}
+use Rattle.tetfit_run.specs.declared.request.Request.TheVariants.{Check}
 use Rattle.run_steps.specs.Messages.{message_of}
 use Rattle.run_steps.specs.declared.numbering.Numbering.{Numbering}
 use Rattle.run_steps.specs.declared.status.LimitKind.{LimitKind}
@@ -60,6 +62,16 @@ has_hint status = false
 abbrev pub hint_in : List ℕ → Status → List ℕ
 hint_in hint status = if has_hint status then hint else []
 
--- the message of a refusal, by the words without those that ask for the stages, with the lines that follow it
-abbrev pub fit_message : List (List ℕ) → List ℕ → Option Numbering → Status → List ℕ
-fit_message words hint by status = line_of words by status ++ hint_in hint status ++ help_of status
+-- the line of a refusal of a check, as `tetgen` has it, but for the words
+abbrev pub check_message : List (List ℕ) → Option Numbering → Status → List ℕ
+check_message words by (Usage word place) = refused_check_line words word place
+check_message words by status = message_of tetfit_name by status
+
+-- the message of a refusal of a mesh, with the lines that follow it
+abbrev pub mesh_message : List (List ℕ) → List ℕ → Option Numbering → Status → List ℕ
+mesh_message words hint by status = line_of words by status ++ hint_in hint status ++ help_of status
+
+-- the message of a refusal, by the words without those that ask for the stages
+abbrev pub fit_message : Request → List (List ℕ) → List ℕ → Option Numbering → Status → List ℕ
+fit_message Check words hint by status = check_message words by status
+fit_message request words hint by status = mesh_message words hint by status

@@ -9,10 +9,11 @@ use Rattle.tetfit_run.specs.Opening.{is_empty}
 use Rattle.tetfit_run.specs.Trying.{IsFitted, at_decimals}
 use Rattle.refining.specs.Outputs.{RefinedMeshed}
 use Rattle.refining.specs.declared.goal.Goal.{Goal}
+use Rattle.tetfit_run.specs.Checks.{OutputsOfCheck, reported}
 use Rattle.tetfit_run.specs.Words.{fit_fault, fit_wanted, others, request_of}
 use Rattle.tetfit_run.specs.declared.page.TheConstants.{PAGE, VERSION}
 use Rattle.tetfit_run.specs.declared.request.Request.{Request}
-use Rattle.tetfit_run.specs.declared.request.Request.TheVariants.{Page, Version, Mesh}
+use Rattle.tetfit_run.specs.declared.request.Request.TheVariants.{Page, Version, Check, Mesh}
 use Rattle.tetfit_run.specs.declared.wanted.Wanted.{Wanted}
 use Rattle.node_files.specs.declared.limits.Limits.{Limits}
 use Rattle.tet_ports.specs.Seen.{FolderSeen}
@@ -93,11 +94,7 @@ OutputsOfModel words folder = AndThen (FitWordsAnswer words) (λ wanted. Outputs
 
 -- outputs without files, whose text is written in place of the summary
 abbrev pub said : List ℕ → Outputs
-said text = record {
-  texts = record { node = None; ele = None; face = None; edge = None; neigh = None; vtk = None; msh = None };
-  report = Some (Text text);
-  tetrahedra = 0;
-}
+said text = reported (Some (Text text))
 
 -- the text, or out of memory
 abbrev pub Says : List ℕ → Result Outputs Status → Type 0
@@ -108,6 +105,7 @@ Says text (Err status) = status ≡ NoMemory
 abbrev pub MadeBy : Request → List (List ℕ) → FolderSeen → Result Outputs Status → Type 0
 MadeBy Page words folder = Says PAGE.now
 MadeBy Version words folder = Says VERSION.now
+MadeBy Check words folder = OutputsOfCheck (others words) folder
 MadeBy Mesh words folder = OutputsOfModel (others words) folder
 
 -- what the words ask for

@@ -1,10 +1,10 @@
 -- Why a word is not understood.
 use Rattle.std.specs.Prelude.{ℕ, ◌-◌, ◌==◌, nat_eq, nat_lt, length, List, [], codes, if◌then◌else◌}
 use Rattle.std.specs.List.{slice_index_or, starts_with}
-use Rattle.command_words.specs.Grammar.{is_cluster, is_long}
+use Rattle.command_words.specs.Grammar.{is_cluster, is_long, is_name}
 use Rattle.tetfit_run.specs.Words.{is_shape, is_volume, keeps_boundary}
 use Rattle.tetfit_run.specs.declared.reason.Reason.{Reason}
-use Rattle.tetfit_run.specs.declared.reason.Reason.TheVariants.{Shapes, Shape, Volumes, Volume, Sizes, Boundary, Order, Insertion, Coarsening, Optimization, Tolerance, Exactness, Crossings, Voronoi, MeditFiles, Weights, Check, OwnWord, Decimals, Sample, Number, NoSwitch, EmptyWord, SecondName, NoName, LongWord, Letter}
+use Rattle.tetfit_run.specs.declared.reason.Reason.TheVariants.{Shapes, Shape, Volumes, Volume, Sizes, Boundary, Order, Insertion, Coarsening, Optimization, Tolerance, Exactness, Crossings, Voronoi, MeditFiles, Weights, Check, BesideCheck, OwnWord, Decimals, Sample, Number, NoSwitch, EmptyWord, SecondName, NoName, LongWord, Letter}
 
 -- letters of TetGen that have no meaning here
 abbrev pub reason_of : ℕ → Reason
@@ -57,3 +57,11 @@ word_reason word place =
 abbrev pub why_not : List (List ℕ) → ℕ → ℕ → Reason
 why_not words word place =
     if nat_lt (word - 1) (length words) then word_reason (slice_index_or words (word - 1) []) place else NoName
+
+-- why a word does not go with -rC
+abbrev pub beside_reason : List ℕ → Reason
+beside_reason word = if length word == 0 then EmptyWord else if is_name word then SecondName else BesideCheck
+
+-- the reason of the fault at this word of a check, from 1: behind the last word a name is missing
+abbrev pub why_no_check : List (List ℕ) → ℕ → Reason
+why_no_check words word = if nat_lt (word - 1) (length words) then beside_reason (slice_index_or words (word - 1) []) else NoName

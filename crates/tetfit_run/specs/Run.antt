@@ -14,7 +14,7 @@ use Rattle.tetfit_run.specs.declared.model.Model.{Model}
 use Rattle.tetfit_run.specs.declared.model.Stated.{Stated}
 use Rattle.tetfit_run.specs.declared.page.TheConstants.{PAGE, VERSION}
 use Rattle.tetfit_run.specs.declared.request.Request.{Request}
-use Rattle.tetfit_run.specs.declared.request.Request.TheVariants.{Page, Version, Mesh}
+use Rattle.tetfit_run.specs.declared.request.Request.TheVariants.{Page, Version, Check, Mesh}
 use Rattle.run_steps.specs.Numbering.{numbering_of}
 use Rattle.tet_ports.specs.Seen.{FolderSeen, SinkSeen, SinkState}
 use Rattle.run_steps.specs.Steps.{forced_answer}
@@ -30,12 +30,14 @@ use Rattle.tetgen_run.specs.Ends.{AnswersBy, HasNoFault, LeavesBy, TellsBy, name
 use Rattle.tetgen_run.specs.Run.{IsMeshBy}
 use Rattle.tetgen_run.specs.declared.stop.Stop.{Stop}
 use Rattle.tetgen_run.specs.declared.stop.Stop.TheVariants.{Refused, NoMemory as Wanting}
+use Rattle.tetfit_run.specs.Checks.{IsSoundMesh}
 use Rattle.tetfit_run.specs.Messages.{fit_message}
 use Rattle.tetfit_run.specs.Opening.{TellsOpening, is_empty}
 use Rattle.tetfit_run.specs.Outputs.{IsEmptyAt, OutputsOfFit, fit_limits, outputs_at, said}
 
 -- The cause of each answer. Done where there are outputs, and any other answer is the refusal of a step: of a mesh it is that of the run at
--- some number of decimals, and at each greater number up to the first one that is tried the grid refuses
+-- some number of decimals, and at each greater number up to the first one that is tried the grid refuses; of a check it is the first one
+-- of the files, of the points or of the mesh
 abbrev pub IsFitAnswer : List (List ℕ) → FolderSeen → SinkSeen → Status → Type 0
 IsFitAnswer words folder = AnswersBy (OutputsOfFit words folder) folder
 
@@ -95,6 +97,7 @@ pub record IsMeshOfModel (words : List (List ℕ)) (folder : FolderSeen) (output
 abbrev pub IsAskedBy : Request → List (List ℕ) → FolderSeen → Outputs → Type 0
 IsAskedBy Page words folder outputs = outputs ≡ said PAGE.now
 IsAskedBy Version words folder outputs = outputs ≡ said VERSION.now
+IsAskedBy Check words folder outputs = IsSoundMesh (others words) folder outputs
 IsAskedBy Mesh words folder outputs = IsMeshOfModel (others words) folder outputs
 
 -- what each answer leaves
@@ -153,16 +156,25 @@ TellsUnnamed options folder hint Empty =
     × TellsOpening fit_limits (at_decimals m (with_origin input options)) input hint
 TellsUnnamed options folder hint status = Unit {0}
 
+-- these lines follow the message of a mesh, and none that of a check
+abbrev pub TellsBehind : Request → Options → FolderSeen → List ℕ → Status → Type 0
+TellsBehind Check options folder hint status = Unit {0}
+TellsBehind request options folder hint status = TellsUnnamed options folder hint status
+
 -- both
+abbrev pub IsKnownBy : Request → Options → FolderSeen → List ℕ → Status → Option Numbering → Type 0
+IsKnownBy request options folder hint status by =
+    IsNumberingOf options folder hint status by × TellsBehind request options folder hint status
+
 abbrev pub IsKnownOf : Options → FolderSeen → List ℕ → Status → Option Numbering → Type 0
-IsKnownOf options folder hint status by = IsNumberingOf options folder hint status by × TellsUnnamed options folder hint status
+IsKnownOf = IsKnownBy Mesh
 
 abbrev pub IsKnown : List (List ℕ) → FolderSeen → List ℕ → Status → Option Numbering → Type 0
-IsKnown words = IsKnownOf (fit_options words)
+IsKnown words = IsKnownBy (request_of words) (fit_options (others words))
 
 -- the stages, where they are asked for, and then the message of each answer but Done, which is cut only where it fails itself
 abbrev pub IsFitTold : List (List ℕ) → FolderSeen → SinkSeen → Status → Type 0
 IsFitTold words folder err status =
     (mid : SinkState) × AreStagesPut words status (until mid err)
-    × (hint : List ℕ) × TellsUnnamed (fit_options (others words)) folder hint status
-    × TellsBy (fit_message (others words) hint) (IsFitNumbering (others words) folder hint) (since mid err) status
+    × (hint : List ℕ) × TellsBehind (request_of words) (fit_options (others words)) folder hint status
+    × TellsBy (fit_message (request_of words) (others words) hint) (IsFitNumbering (others words) folder hint) (since mid err) status

@@ -3,8 +3,8 @@ use Rattle.std.specs.Prelude.{ℕ, ◌-◌, ◌&&◌, nat_lt, length, List, [], 
 use Rattle.std.specs.List.{slice_index_or}
 use Rattle.command_words.specs.Grammar.{is_cluster}
 use Rattle.tetfit_run.specs.declared.reason.Reason.{Reason}
-use Rattle.tetfit_run.specs.declared.reason.Reason.TheVariants.{Shapes, Shape, Volumes, Volume, Sizes, Boundary, Order, Insertion, Coarsening, Optimization, Tolerance, Exactness, Crossings, Voronoi, MeditFiles, Weights, Check, OwnWord, Decimals, Sample, Number, NoSwitch, EmptyWord, SecondName, NoName, LongWord, Letter}
-use Rattle.tetfit_run.specs.Reasons.{why_not}
+use Rattle.tetfit_run.specs.declared.reason.Reason.TheVariants.{Shapes, Shape, Volumes, Volume, Sizes, Boundary, Order, Insertion, Coarsening, Optimization, Tolerance, Exactness, Crossings, Voronoi, MeditFiles, Weights, Check, BesideCheck, OwnWord, Decimals, Sample, Number, NoSwitch, EmptyWord, SecondName, NoName, LongWord, Letter}
+use Rattle.tetfit_run.specs.Reasons.{why_no_check, why_not}
 
 abbrev pub reason_text : Reason → List ℕ
 reason_text Shapes = codes "a ratio is a word of its own, as -q1.4"
@@ -24,7 +24,8 @@ reason_text Crossings = codes "crossing parts are told without a switch"
 reason_text Voronoi = codes "Voronoi cells are not written"
 reason_text MeditFiles = codes "Medit files are not written, but -k and --msh write others"
 reason_text Weights = codes "points with weights are meshed by tetgen -w"
-reason_text Check = codes "a mesh is checked by tetgen -rC"
+reason_text Check = codes "a mesh is checked by -rC, a word of its own"
+reason_text BesideCheck = codes "only -Q and a name go with -rC"
 reason_text OwnWord = codes "this letter is a word of its own, with its hyphen"
 reason_text Decimals = codes "decimals are found here; tetgen takes their number"
 reason_text Sample = codes "the sample is meshed by tetgen"
@@ -46,6 +47,13 @@ word_told words word place =
     if nat_lt (word - 1) (length words) then
     slice_index_or words (word - 1) [] ++ codes ": " ++ letter_at (slice_index_or words (word - 1) []) place else []
 
--- the line, which a line feed ends
+-- the line for a reason, which a line feed ends
+abbrev pub reason_line : List (List ℕ) → ℕ → ℕ → Reason → List ℕ
+reason_line words word place reason = codes "tetfit: " ++ word_told words word place ++ reason_text reason ++ codes "\n"
+
 abbrev pub refused_line : List (List ℕ) → ℕ → ℕ → List ℕ
-refused_line words word place = codes "tetfit: " ++ word_told words word place ++ reason_text (why_not words word place) ++ codes "\n"
+refused_line words word place = reason_line words word place (why_not words word place)
+
+-- and beside -rC
+abbrev pub refused_check_line : List (List ℕ) → ℕ → ℕ → List ℕ
+refused_check_line words word place = reason_line words word place (why_no_check words word)

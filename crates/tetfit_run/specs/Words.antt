@@ -11,7 +11,7 @@ use Rattle.refining.specs.declared.goal.Shape.{Shape}
 use Rattle.tet_shapes.specs.declared.shape.Ratio.{Ratio}
 use Rattle.tetfit_run.specs.declared.request.Request.{Request}
 use Rattle.tetfit_run.specs.declared.wanted.Wanted.{Wanted}
-use Rattle.tetfit_run.specs.declared.request.Request.TheVariants.{Page, Version, Mesh}
+use Rattle.tetfit_run.specs.declared.request.Request.TheVariants.{Page, Version, Check, Mesh}
 use Rattle.command_words.specs.declared.fault.WordsFault.{WordsFault}
 use Rattle.command_words.specs.declared.fault.WordsFault.TheVariants.{Usage, NoMemory}
 use Rattle.command_words.specs.declared.options.Formats.{Formats}
@@ -19,7 +19,7 @@ use Rattle.command_words.specs.declared.options.Options.{Options}
 use Rattle.command_words.specs.Grammar.{is_cluster, within, words_fault_within}
 use Rattle.command_words.specs.Meaning.{options_within}
 
--- ---- words of their own: they ask for the page, for the version, and for the stages to be said
+-- ---- words of their own: they ask for the page, for the version, for the stages to be said, and for a check
 
 abbrev pub has_word : List (List ℕ) → List ℕ → Bool
 has_word words wanted = list_any (λ word. bytes_eq word wanted) words
@@ -33,6 +33,13 @@ asks_version words = has_word words (codes "--version")
 
 abbrev pub asks_stages : List (List ℕ) → Bool
 asks_stages words = has_word words (codes "-V")
+
+-- -rC, or -Cr, asks for the check of a mesh that is there
+abbrev pub is_check : List ℕ → Bool
+is_check word = bytes_eq word (codes "-rC") || bytes_eq word (codes "-Cr")
+
+abbrev pub asks_check : List (List ℕ) → Bool
+asks_check words = list_any is_check words
 
 -- ---- words that bound the volumes of tetrahedra: -a, alone for the limits of regions, or with a decimal behind it
 
@@ -286,4 +293,4 @@ pub record IsPlainRequest (options : Options) : Type 0 where
 -- ---- what is asked for
 
 abbrev pub request_of : List (List ℕ) → Request
-request_of words = if asks_page words then Page else if asks_version words then Version else Mesh
+request_of words = if asks_page words then Page else if asks_version words then Version else if asks_check words then Check else Mesh

@@ -2,7 +2,7 @@
 
 ghost use Rattle.std.specs.Prelude.{◌≡◌};
 ghost use Rattle.std.specs.List.{slice_index_or};
-ghost use Rattle.command_words.specs.Grammar.{is_cluster, is_long};
+ghost use Rattle.command_words.specs.Grammar.{is_cluster, is_long, is_name};
 
 /// The front of the long word that rounds coordinates.
 pub(crate) const DECIMALS: &[u8] = b"--decimals=";
@@ -44,6 +44,13 @@ pub(crate) fn is_cluster(word: &[u8]) -> bool
     ensures { result ≡ is_cluster word.now }
 {
     word.starts_with(b"-") && !is_long(word)
+}
+
+/// Whether the word is not empty and begins with no hyphen.
+pub(crate) fn is_name(word: &[u8]) -> bool
+    ensures { result ≡ is_name word.now }
+{
+    !word.is_empty() && !word.starts_with(b"-")
 }
 
 /// The byte at place `i`, from 0; 0 past the end.

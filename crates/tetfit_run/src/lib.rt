@@ -3,6 +3,8 @@
 //! over a folder and two streams.
 #![tactic(auto)]
 
+mod check_words;
+mod checks;
 mod copies;
 mod facets;
 mod fitting;

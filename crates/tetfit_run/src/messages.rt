@@ -2,13 +2,13 @@
 
 ghost use Rattle.std.specs.Prelude.{◌≡◌, ◌++◌, IfOk, OnOk};
 ghost use Rattle.tet_ports.specs.Seen.{sink_seen};
-ghost use Rattle.tetfit_run.specs.Words.{others};
+ghost use Rattle.tetfit_run.specs.Words.{others, request_of};
 ghost use Rattle.tetgen_run.specs.Ends.{IsToldAs};
-ghost use Rattle.tetfit_run.specs.Messages.{fit_message, has_hint, help_of, help_of_budget, help_of_limit, hint_in};
-ghost use Rattle.tetfit_run.specs.Messages.{line_of};
+ghost use Rattle.tetfit_run.specs.Messages.{check_message, fit_message, has_hint, help_of, help_of_budget, help_of_limit, hint_in};
+ghost use Rattle.tetfit_run.specs.Messages.{line_of, mesh_message};
 
-use crate::request::other_words;
-use crate::told::refused_line;
+use crate::request::{Request, other_words, request_of};
+use crate::told::{refused_check_line, refused_line};
 use mesh_check::put_message;
 use run_steps::{LimitKind, Numbering, Status, message, put_unwritten};
 use std::alloc::Global;
@@ -131,7 +131,42 @@ fn append_hint(line: &mut Bytes, hint: &[u8], status: &Status) -> Result<(), NoM
     Ok(())
 }
 
-/// The message of a refusal, with the lines on the model that follow it.
+/// The line of a refusal of a check, from all words of the command, `-V` included.
+fn check_message(
+    alloc: Global,
+    words: &Words,
+    by: &Option<Numbering>,
+    status: &Status,
+) -> Result<Bytes, NoMemory>
+    ensures { IfOk result (λ line. line ≡ check_message (others words.now) by.now status.now) }
+{
+    match status {
+        Status::Usage { word, place } => {
+            let plain = other_words(alloc, words)?;
+            refused_check_line(alloc, &plain, *word, *place)
+        }
+        _ => message(alloc, NAME, by, status),
+    }
+}
+
+/// The message of a refusal of a mesh, with the lines on the model that follow it.
+fn mesh_message(
+    alloc: Global,
+    words: &Words,
+    hint: &[u8],
+    by: &Option<Numbering>,
+    status: &Status,
+) -> Result<Bytes, NoMemory>
+    ensures { IfOk result
+        (λ line. line ≡ mesh_message (others words.now) hint.now by.now status.now) }
+{
+    let mut line = line_of(alloc, words, by, status)?;
+    append_hint(&mut line, hint, status)?;
+    line.append(help_of(status))?;
+    Ok(line)
+}
+
+/// The message of a refusal.
 fn fit_message(
     alloc: Global,
     words: &Words,
@@ -140,12 +175,15 @@ fn fit_message(
     status: &Status,
 ) -> Result<Bytes, NoMemory>
     ensures { IfOk result
-        (λ line. line ≡ fit_message (others words.now) hint.now by.now status.now) }
+        (λ line. line ≡ fit_message (request_of words.now) (others words.now)
+        hint.now by.now status.now) }
 {
-    let mut line = line_of(alloc, words, by, status)?;
-    append_hint(&mut line, hint, status)?;
-    line.append(help_of(status))?;
-    Ok(line)
+    match request_of(words) {
+        Request::Check => check_message(alloc, words, by, status),
+        Request::Page | Request::Version | Request::Mesh => {
+            mesh_message(alloc, words, hint, by, status)
+        }
+    }
 }
 
 /// Writes the message of a stop, with the lines on the model, and answers its status; out of memory
@@ -157,7 +195,7 @@ pub(crate) fn tell<E: Sink>(
     stop: Stop,
     err: &mut E,
 ) -> Status
-    ensures { IsToldAs (fit_message (others words.now) hint.now) stop
+    ensures { IsToldAs (fit_message (request_of words.now) (others words.now) hint.now) stop
         (sink_seen E.state err.old err.new) result }
 {
     match &stop {

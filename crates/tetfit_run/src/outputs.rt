@@ -20,6 +20,7 @@ ghost use Rattle.tetfit_run.specs.Outputs.{fitted_told, outputs_at, said, wanted
 ghost use Rattle.tetfit_run.specs.Run.{IsKnown, IsKnownOf, IsUnfitted, TellsEmpty};
 ghost use Rattle.tetfit_run.specs.Stages.{SeesRounds};
 
+use crate::checks::{outputs_of_check, reported};
 use crate::copies::with_origin;
 use crate::fitting::{Fitted, fit_input};
 use crate::grids::refined_decimals;
@@ -34,7 +35,7 @@ use crate::trying::Unfitted;
 use crate::wanted::{Wanted, read_wanted};
 use command_words::{Options, WordsFault};
 use refining::{Goal, Watch};
-use run_steps::{Input, Outputs, Report, Status, Texts};
+use run_steps::{Input, Outputs, Report, Status};
 use std::alloc::Global;
 use tet_ports::{Bytes, Folder, NoMemory, Words};
 use tetgen_run::Stop;
@@ -47,21 +48,8 @@ const FINE: u64 = 1 << 21;
 fn said(alloc: Global, text: &[u8]) -> Result<Outputs, NoMemory>
     ensures { IfOk result (λ outputs. outputs ≡ said text.now) }
 {
-    let texts = Texts {
-        node: None,
-        ele: None,
-        face: None,
-        edge: None,
-        neigh: None,
-        vtk: None,
-        msh: None,
-    };
-    let report = Some(Report::Text(Bytes::from_slice(alloc, text)?));
-    Ok(Outputs {
-        texts,
-        report,
-        tetrahedra: 0,
-    })
+    let text = Bytes::from_slice(alloc, text)?;
+    Ok(reported(Some(Report::Text(text))))
 }
 
 /// The report of a mesh with the number of decimals in its summary, and with lines behind it.
@@ -327,7 +315,8 @@ fn fit_wanted(alloc: Global, words: &Words) -> Result<Wanted, WordsFault>
     read_wanted(alloc, &all)
 }
 
-/// The outputs that the words ask for: the page, the version, or those of the model that they name.
+/// The outputs that the words ask for: the page, the version, those of a check, or those of the
+/// model that they name.
 /// `watch` is shown the rounds in which points are added.
 pub(crate) fn outputs_of<F: Folder, W: Watch>(
     alloc: Global,
@@ -341,14 +330,14 @@ pub(crate) fn outputs_of<F: Folder, W: Watch>(
         (folder_seen F.state folder.old folder.new) (Ok outputs)) }
     ensures stopped { IfErr result (StopsSo
         (OutputsOfFit words.now (folder_seen F.state folder.old folder.new))
-        (IsKnown (others words.now)
-        (folder_seen F.state folder.old folder.new) hint.new)) }
+        (IsKnown words.now (folder_seen F.state folder.old folder.new) hint.new)) }
     ensures only_read { IsOnlyRead (folder_seen F.state folder.old folder.new) }
     ensures shown { SeesRounds W.shown watch.old watch.new }
 {
     match request_of(words) {
         Request::Page => Ok(said(alloc, PAGE)?),
         Request::Version => Ok(said(alloc, VERSION)?),
+        Request::Check => outputs_of_check(alloc, words, folder),
         Request::Mesh => {
             let wanted = fit_wanted(alloc, words)?;
             outputs_of_wanted(alloc, &wanted, folder, hint, watch)

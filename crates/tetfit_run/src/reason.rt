@@ -1,10 +1,10 @@
 //! Why a word is not understood.
 
 ghost use Rattle.std.specs.Prelude.{◌≡◌};
-ghost use Rattle.tetfit_run.specs.Reasons.{cluster_reason, long_reason, reason_of, why_not, word_reason};
+ghost use Rattle.tetfit_run.specs.Reasons.{beside_reason, cluster_reason, long_reason, reason_of, why_no_check, why_not, word_reason};
 ghost use Rattle.tetfit_run.specs.Texts.{reason_text};
 
-use crate::kinds::{DECIMALS, HALVINGS, SAMPLE, byte_at, is_cluster, is_long};
+use crate::kinds::{DECIMALS, HALVINGS, SAMPLE, byte_at, is_cluster, is_long, is_name};
 use crate::request::{is_shape, is_volume, keeps_boundary};
 use tet_ports::Words;
 
@@ -43,8 +43,10 @@ pub enum Reason {
     MeditFiles,
     /// The letter w, which only the program for exact texts has.
     Weights,
-    /// The letters r and C, which only the program for exact texts has.
+    /// The letters r and C among others: a check is a word of its own.
     Check,
+    /// A word that does not go with `-rC`.
+    BesideCheck,
     /// The letters V, h, Y and k, which stand alone behind their hyphen.
     OwnWord,
     /// The long word for decimals, which only the program for exact texts has.
@@ -92,7 +94,8 @@ impl Reason {
             Reason::Voronoi => b"Voronoi cells are not written",
             Reason::MeditFiles => b"Medit files are not written, but -k and --msh write others",
             Reason::Weights => b"points with weights are meshed by tetgen -w",
-            Reason::Check => b"a mesh is checked by tetgen -rC",
+            Reason::Check => b"a mesh is checked by -rC, a word of its own",
+            Reason::BesideCheck => b"only -Q and a name go with -rC",
             Reason::OwnWord => b"this letter is a word of its own, with its hyphen",
             Reason::Decimals => b"decimals are found here; tetgen takes their number",
             Reason::Sample => b"the sample is meshed by tetgen",
@@ -197,6 +200,32 @@ pub fn why_not(words: &Words, word: usize, place: usize) -> Reason
     let i = word.saturating_sub(1);
     if i < words.len() {
         word_reason(words.word(i).as_slice(), place)
+    } else {
+        Reason::NoName
+    }
+}
+
+/// Why a word does not go with `-rC`.
+fn beside_reason(word: &[u8]) -> Reason
+    ensures { result ≡ beside_reason word.now }
+{
+    if word.is_empty() {
+        Reason::EmptyWord
+    } else if is_name(word) {
+        Reason::SecondName
+    } else {
+        Reason::BesideCheck
+    }
+}
+
+/// Why the words of a check are not understood, from the fault that `check_fault` reports: the
+/// number of the word, from 1.
+pub fn why_no_check(words: &Words, word: usize) -> Reason
+    ensures { result ≡ why_no_check words.now word }
+{
+    let i = word.saturating_sub(1);
+    if i < words.len() {
+        beside_reason(words.word(i).as_slice())
     } else {
         Reason::NoName
     }

@@ -1,10 +1,10 @@
-//! Reads the words of the command: a page, the version, or the options of a mesh.
+//! Reads the words of the command: a page, the version, a check, or the options of a mesh.
 
 ghost use Rattle.std.specs.Prelude.{◌≡◌, ◌+◌, ◌++◌, ◌<◌, ℕ, filter, length, Some, None, Err, IfOk, IfSome, OnOk, position};
 ghost use Rattle.std.specs.Str.{bytes_eq};
 ghost use Rattle.command_words.specs.Meaning.{AreInRange};
 ghost use Rattle.command_words.specs.declared.fault.WordsFault.TheVariants.{Usage};
-ghost use Rattle.tetfit_run.specs.Words.{request_of, asks_limits, asks_page, asks_stages, asks_version, elsewhere_in, first_elsewhere, formats_of, has_word, asks_elsewhere, is_bounding, is_format, is_letter_elsewhere, is_of_goal, is_own, is_plain, is_shape, is_volume, keeps_boundary, named_fault, others, plain_fault, plain_options, plain_words, told_fault, IsPlainRequest};
+ghost use Rattle.tetfit_run.specs.Words.{request_of, asks_check, is_check, asks_limits, asks_page, asks_stages, asks_version, elsewhere_in, first_elsewhere, formats_of, has_word, asks_elsewhere, is_bounding, is_format, is_letter_elsewhere, is_of_goal, is_own, is_plain, is_shape, is_volume, keeps_boundary, named_fault, others, plain_fault, plain_options, plain_words, told_fault, IsPlainRequest};
 
 use crate::kinds::{BOUNDARY, DECIMALS, MSH, SAMPLE, SECOND_ORDER, SHAPE, VOLUME, VTK, is_cluster};
 use command_words::{Formats, Options, WordsFault, read_words_within};
@@ -21,11 +21,13 @@ pub enum Request {
     Page,
     /// The version of the program.
     Version,
+    /// The check of a mesh that is there, as the words without `-V` say (`other_words`).
+    Check,
     /// A mesh, as the words without `-V` say (`other_words`).
     Mesh,
 }
 
-fn is_word(word: &[u8], wanted: &[u8]) -> bool
+pub(crate) fn is_word(word: &[u8], wanted: &[u8]) -> bool
     ensures { result ≡ bytes_eq word.now wanted.now }
 {
     word == wanted
@@ -46,8 +48,24 @@ fn asks_page(words: &Words) -> bool
     words.is_empty() || has_word(words, b"-h") || has_word(words, b"--help")
 }
 
-/// What the words ask for first of all: `-h`, `--help` and no word at all ask for the page, and
-/// `--version` for the version.
+/// Whether the word asks for the check of a mesh that is there.
+pub(crate) fn is_check(word: &[u8]) -> bool
+    ensures { result ≡ is_check word.now }
+{
+    is_word(word, b"-rC") || is_word(word, b"-Cr")
+}
+
+fn asks_check(words: &Words) -> bool
+    ensures { result ≡ asks_check words.now }
+{
+    words
+        .as_slice()
+        .iter()
+        .any(|word| is_check(word.as_slice()))
+}
+
+/// What the words ask for first of all: `-h`, `--help` and no word at all ask for the page,
+/// `--version` for the version, and `-rC` for a check.
 pub fn request_of(words: &Words) -> Request
     ensures { result ≡ request_of words.now }
 {
@@ -55,6 +73,8 @@ pub fn request_of(words: &Words) -> Request
         Request::Page
     } else if has_word(words, b"--version") {
         Request::Version
+    } else if asks_check(words) {
+        Request::Check
     } else {
         Request::Mesh
     }

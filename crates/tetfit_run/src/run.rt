@@ -1,7 +1,6 @@
 //! The run of the program: from its words to the files of a mesh.
 
 ghost use Rattle.std.specs.Prelude.{◌≡◌, []};
-ghost use Rattle.tetfit_run.specs.Words.{others};
 ghost use Rattle.tet_ports.specs.Seen.{folder_seen, sink_seen};
 ghost use Rattle.tetgen_run.specs.Ends.{EndsWith, answer_of};
 ghost use Rattle.tetfit_run.specs.Outputs.{OutputsOfFit};
@@ -17,9 +16,10 @@ use tet_ports::{Bytes, Folder, Sink, Words};
 use tetgen_run::{Stop, finish};
 
 /// Meshes the model that the words name, with the most decimals at which the grid does not refuse
-/// it, and stores the files that the words ask for; or puts the page or the version to `out`. On
-/// every answer but Done it puts one message to `err`, and before it the stages where `-V` asks for
-/// them; a failure there changes no status.
+/// it, and stores the files that the words ask for; or checks the mesh that they name, and puts a
+/// line on a sound one to `out`; or puts the page or the version there. On every answer but Done it
+/// puts one message to `err`, and before it the stages where `-V` asks for them; a failure there
+/// changes no status.
 ///
 /// Nothing is stored before all texts are made.
 pub fn run_fit<F: Folder, O: Sink, E: Sink>(
@@ -57,8 +57,7 @@ fn run<F: Folder, O: Sink, E: Sink>(
     requires { hint.old ≡ [] }
     ensures ends { EndsWith
         (OutputsOfFit words.now (folder_seen F.state folder.old folder.new))
-        (IsKnown (others words.now)
-        (folder_seen F.state folder.old folder.new) hint.new)
+        (IsKnown words.now (folder_seen F.state folder.old folder.new) hint.new)
         (folder_seen F.state folder.old folder.new)
         (sink_seen O.state out.old out.new) result }
     ensures stages { AreStagesPut words.now (answer_of result)

@@ -1,10 +1,10 @@
 //! The line on a word that is not understood.
 
 ghost use Rattle.std.specs.Prelude.{◌≡◌, ◌++◌, OnOk, IfOk};
-ghost use Rattle.tetfit_run.specs.Texts.{letter_at, refused_line, word_told};
+ghost use Rattle.tetfit_run.specs.Texts.{letter_at, reason_line, refused_check_line, refused_line, word_told};
 
 use crate::kinds::{byte_at, is_cluster};
-use crate::reason::why_not;
+use crate::reason::{Reason, why_no_check, why_not};
 use std::alloc::Global;
 use tet_ports::{Bytes, NoMemory, Words};
 
@@ -34,6 +34,23 @@ fn put_word(words: &Words, word: usize, place: usize, line: &mut Bytes) -> Resul
     Ok(())
 }
 
+/// The line for a reason: the word, its letter that is not understood, and why.
+fn reason_line(
+    alloc: Global,
+    words: &Words,
+    word: usize,
+    place: usize,
+    reason: Reason,
+) -> Result<Bytes, NoMemory>
+    ensures { IfOk result (λ line. line ≡ reason_line words.now word place reason) }
+{
+    let mut line = Bytes::from_slice(alloc, b"tetfit: ")?;
+    put_word(words, word, place, &mut line)?;
+    line.extend_from_slice(reason.text())?;
+    line.extend_from_slice(b"\n")?;
+    Ok(line)
+}
+
 /// The line on the fault that `read_options` reports: the word, its letter that is not understood,
 /// and why.
 pub fn refused_line(
@@ -44,9 +61,17 @@ pub fn refused_line(
 ) -> Result<Bytes, NoMemory>
     ensures { IfOk result (λ line. line ≡ refused_line words.now word place) }
 {
-    let mut line = Bytes::from_slice(alloc, b"tetfit: ")?;
-    put_word(words, word, place, &mut line)?;
-    line.extend_from_slice(why_not(words, word, place).text())?;
-    line.extend_from_slice(b"\n")?;
-    Ok(line)
+    reason_line(alloc, words, word, place, why_not(words, word, place))
+}
+
+/// The line on the fault that `check_fault` reports: the word, and why it does not go with `-rC`.
+pub fn refused_check_line(
+    alloc: Global,
+    words: &Words,
+    word: usize,
+    place: usize,
+) -> Result<Bytes, NoMemory>
+    ensures { IfOk result (λ line. line ≡ refused_check_line words.now word place) }
+{
+    reason_line(alloc, words, word, place, why_no_check(words, word))
 }

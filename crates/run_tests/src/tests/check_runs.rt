@@ -1,7 +1,7 @@
 //! Runs that check a mesh.
 
 use crate::tests::harness::End::{Refused, Told};
-use crate::tests::harness::Program::Tetgen;
+use crate::tests::harness::Program::{Tetfit, Tetgen};
 use crate::tests::harness::{Place, Run, other_run};
 use crate::tests::test_inputs::{BAR, PYRAMID, SPLIT};
 use std::test::Fail;
@@ -111,5 +111,104 @@ fn a_mesh_that_was_made_is_sound(rt: HostRuntime) -> Result<(), Fail> {
     place.run(alloc, Tetgen, &[b"-rC", b"s.1"])?;
     let found = place.difference(alloc, Told(b"sound: 18 tetrahedra\n"), &[])?;
     assert_eq!(rt; found, None);
+    Ok(())
+}
+
+/// One tetrahedron whose corners are on a grid of 6400 parts of the unit, far from zero.
+const FAR: &[u8] = b"4 3 0 0\n\
+    0 432100.25390625 5412300.75 -295.78\n\
+    1 432101.25390625 5412300.75 -295.78\n\
+    2 432100.25390625 5412301.75 -295.78\n\
+    3 432100.25390625 5412300.75 -294.78\n";
+
+const FAR_FACES: &[u8] = b"4 0\n0 0 1 2\n1 0 1 3\n2 0 2 3\n3 1 2 3\n";
+
+/// The files of a mesh on these points, with one tetrahedron.
+const FAR_FILES: &[(&[u8], &[&[u8]])] = &[
+    (b"t.node", &[FAR]),
+    (b"t.ele", &[b"1 4 0\n0 0 1 2 3\n"]),
+    (b"t.face", &[FAR_FACES]),
+];
+
+static FAR_CHECKS: [Run<'static>; 9] = [
+    Run {
+        name: "sound, far from zero",
+        held: FAR_FILES,
+        words: &[b"-rC", b"t"],
+        end: Told(b"sound: 1 tetrahedra\n"),
+        files: &[(b"t.1.node", None)],
+    },
+    Run {
+        name: "quiet, by the name of its tetrahedra, with no stage",
+        held: FAR_FILES,
+        words: &[b"t.ele", b"-V", b"-Q", b"-Cr"],
+        end: Told(b""),
+        files: &[],
+    },
+    Run {
+        name: "a row that is not positive",
+        held: &[
+            (b"t.node", &[FAR]),
+            (b"t.ele", &[b"1 4 0\n0 0 2 1 3\n"]),
+            (b"t.face", &[FAR_FACES]),
+        ],
+        words: &[b"-rC", b"t"],
+        end: Refused(13, b"tetfit: defect: row 0 is not positive\n"),
+        files: &[],
+    },
+    Run {
+        name: "a coordinate off the grid",
+        held: &[
+            (
+                b"t.node",
+                &[b"4 3\n0 0 0 .5\n1 536870914 0 0\n2 0 1 0\n3 0 0 1\n"],
+            ),
+            (b"t.ele", &[b"1 4\n0 0 1 2 3\n"]),
+            (b"t.face", &[FAR_FACES]),
+        ],
+        words: &[b"-rC", b"t"],
+        end: Refused(5, b"tetfit: line 2: coordinate off the grid\n"),
+        files: &[],
+    },
+    Run {
+        name: "a file that is missing",
+        held: &[(b"t.node", &[FAR])],
+        words: &[b"-rC", b"t.node"],
+        end: Refused(2, b"tetfit: t.ele: not found\n"),
+        files: &[],
+    },
+    Run {
+        name: "a bound beside a check",
+        held: &[],
+        words: &[b"-q1.4", b"-rC", b"t"],
+        end: Refused(1, b"tetfit: -q1.4: only -Q and a name go with -rC\n"),
+        files: &[],
+    },
+    Run {
+        name: "letters beside a check",
+        held: &[],
+        words: &[b"-rC", b"-nf", b"t"],
+        end: Refused(1, b"tetfit: -nf: only -Q and a name go with -rC\n"),
+        files: &[],
+    },
+    Run {
+        name: "a second name of a check",
+        held: &[],
+        words: &[b"-rC", b"t", b"u"],
+        end: Refused(1, b"tetfit: u: there is one name already\n"),
+        files: &[],
+    },
+    Run {
+        name: "no name of a check",
+        held: &[],
+        words: &[b"-rC"],
+        end: Refused(1, b"tetfit: the name of a file is wanted\n"),
+        files: &[],
+    },
+];
+
+#[test]
+fn far_meshes_are_checked(rt: HostRuntime) -> Result<(), Fail> {
+    assert_eq!(rt; other_run(rt.alloc(), Tetfit, &FAR_CHECKS)?, None);
     Ok(())
 }

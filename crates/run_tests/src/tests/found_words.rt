@@ -54,7 +54,10 @@ static TOLD: [Run<'static>; 11] = [
         name: "a check with a letter short",
         held: &[],
         words: &[b"-r", b"part"],
-        end: Refused(1, b"tetfit: -r: r: a mesh is checked by tetgen -rC\n"),
+        end: Refused(
+            1,
+            b"tetfit: -r: r: a mesh is checked by -rC, a word of its own\n",
+        ),
         files: &[],
     },
     Run {

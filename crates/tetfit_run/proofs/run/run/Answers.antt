@@ -1,6 +1,5 @@
 use Rattle.std.proofs.Common.{true, false, Ok, refl, arith, ap, ◌∙◌, rules}
 use Rattle.std.proofs.lemmas.Result.{err_from_is_err_and}
-use Rattle.tetfit_run.specs.Words.{others}
 use Rattle.tet_ports.proofs.Windows.{IsWithin}
 use Rattle.tet_ports.specs.Seen.{FolderSeen, SinkSeen, folder_seen, sink_seen}
 use Rattle.tetgen_run.proofs.Endings.{finish_ends}
@@ -33,7 +32,7 @@ returns-clause-ends g c =
     let outputs = c.in_ok-outputs.outputs in
     let made = fit_wider words part folder within (Ok outputs) c.in_ok-outputs.ensures.made in
     let out : SinkSeen = sink_seen O.state c.args.out.now c.finish.new.out in
-    finish_ends (OutputsOfFit words folder) (IsKnown (others words) folder c.outputs_of.new.hint) outputs stored folder out c.finish.result made a.only_read.0 refl (omega (arith, a.only_read.1)) refl b.finish
+    finish_ends (OutputsOfFit words folder) (IsKnown words folder c.outputs_of.new.hint) outputs stored folder out c.finish.result made a.only_read.0 refl (omega (arith, a.only_read.1)) refl b.finish
 
 pub returns-in_err-outputs-clause-stages : goal.returns-in_err-outputs-clause-stages
 returns-in_err-outputs-clause-stages g c =
@@ -43,7 +42,7 @@ returns-in_err-outputs-clause-stages g c =
     let folder : FolderSeen = folder_seen F.state c.args.folder.now c.outputs_of.new.folder in
     let stop = c.in_err-outputs.field-0.0 in
     let p = err_from_is_err_and c.from_residual.result c.from_residual.ensures.1 in
-    let unmade = stopped_unmade (OutputsOfFit words folder) (IsKnown (others words) folder c.outputs_of.new.hint) stop (fit_refuses words folder) c.in_err-outputs.ensures.stopped in
+    let unmade = stopped_unmade (OutputsOfFit words folder) (IsKnown words folder c.outputs_of.new.hint) stop (fit_refuses words folder) c.in_err-outputs.ensures.stopped in
     let shown = c.in_err-outputs.ensures.shown in
     let first = c.new-stages.ensures in
     let says = says_stages words in

@@ -1,5 +1,5 @@
 use Rattle.std.proofs.Common.{[], Ok, refl, subst}
-use Rattle.tetfit_run.specs.Words.{others, request_of}
+use Rattle.tetfit_run.specs.Words.{fit_options, others, request_of}
 use Rattle.tet_ports.specs.Seen.{FolderSeen, SinkSeen, folder_seen, sink_seen}
 use Rattle.run_steps.specs.declared.status.Status.TheVariants.{Done}
 use Rattle.tetgen_run.proofs.Endings.{end_answers, end_leaves, stop_answers, stop_leaves, stop_tells}
@@ -9,7 +9,7 @@ use Rattle.tetfit_run.specs.Outputs.{OutputsOfFit}
 use Rattle.tetfit_run.specs.Run.{IsAskedBy, IsKnown, IsFitNumbering}
 use Rattle.tetfit_run.specs.Stages.{AreStagesPut}
 use Rattle.tetfit_run.proofs.Complete.{answer_complete}
-use Rattle.tetfit_run.proofs.Fitted.{ends_numbered, fit_asked, fit_refuses, numbers_points, told_unnamed}
+use Rattle.tetfit_run.proofs.Fitted.{ends_numbered, fit_asked, fit_refuses, no_behind, numbers_points, told_behind}
 use Rattle.tetfit_run.proofs.Pieces.{stages_told}
 use Rattle.tetfit_run.proofs.run.run_fit.Goals as goal
 
@@ -22,7 +22,7 @@ returns-in-Ok-clause-complete g c =
     let out : SinkSeen = sink_seen O.state c.args.out.now c.run.new.out in
     let made = OutputsOfFit words folder in
     let hint = c.run.new.hint in
-    let numbered = IsKnown (others words) folder hint in
+    let numbered = IsKnown words folder hint in
     let ended = subst (EndsWith made numbered folder out) c.in-Ok.is c.run.ensures.ends in
     answer_complete words folder out Done (end_answers made numbered (fit_refuses words folder) folder out (Ok c.in-Ok.field-0) ended)
 
@@ -35,7 +35,7 @@ returns-in-Ok-clause-left g c =
     let out : SinkSeen = sink_seen O.state c.args.out.now c.run.new.out in
     let made = OutputsOfFit words folder in
     let hint = c.run.new.hint in
-    let numbered = IsKnown (others words) folder hint in
+    let numbered = IsKnown words folder hint in
     let ended = subst (EndsWith made numbered folder out) c.in-Ok.is c.run.ensures.ends in
     end_leaves made numbered (IsAskedBy (request_of words) words folder) (fit_refuses words folder) (fit_asked words folder) folder out (Ok c.in-Ok.field-0) ended
 
@@ -49,11 +49,11 @@ returns-clause-answer g c =
     let out : SinkSeen = sink_seen O.state c.args.out.now c.run.new.out in
     let made = OutputsOfFit words folder in
     let hint = c.run.new.hint in
-    let numbered = IsKnown (others words) folder hint in
+    let numbered = IsKnown words folder hint in
     let ended = subst (EndsWith made numbered folder out) c.in-Err.is c.run.ensures.ends in
     let err : SinkSeen = sink_seen E.state c.run.new.err c.tell.new.err in
-    let tells = subst (λ h. IsToldAs (fit_message (others words) h) c.in-Err.stop err c.tell.result) c.as_slice.ensures c.tell.ensures in
-    stop_answers (fit_message (others words) hint) made numbered (fit_refuses words folder) folder out err c.in-Err.stop c.tell.result ended tells
+    let tells = subst (λ h. IsToldAs (fit_message (request_of words) (others words) h) c.in-Err.stop err c.tell.result) c.as_slice.ensures c.tell.ensures in
+    stop_answers (fit_message (request_of words) (others words) hint) made numbered (fit_refuses words folder) folder out err c.in-Err.stop c.tell.result ended tells
 
 pub returns-clause-complete : goal.returns-clause-complete
 returns-clause-complete g c =
@@ -65,11 +65,11 @@ returns-clause-complete g c =
     let out : SinkSeen = sink_seen O.state c.args.out.now c.run.new.out in
     let made = OutputsOfFit words folder in
     let hint = c.run.new.hint in
-    let numbered = IsKnown (others words) folder hint in
+    let numbered = IsKnown words folder hint in
     let ended = subst (EndsWith made numbered folder out) c.in-Err.is c.run.ensures.ends in
     let err : SinkSeen = sink_seen E.state c.run.new.err c.tell.new.err in
-    let tells = subst (λ h. IsToldAs (fit_message (others words) h) c.in-Err.stop err c.tell.result) c.as_slice.ensures c.tell.ensures in
-    answer_complete words folder out c.tell.result (stop_answers (fit_message (others words) hint) made numbered (fit_refuses words folder) folder out err c.in-Err.stop c.tell.result ended tells)
+    let tells = subst (λ h. IsToldAs (fit_message (request_of words) (others words) h) c.in-Err.stop err c.tell.result) c.as_slice.ensures c.tell.ensures in
+    answer_complete words folder out c.tell.result (stop_answers (fit_message (request_of words) (others words) hint) made numbered (fit_refuses words folder) folder out err c.in-Err.stop c.tell.result ended tells)
 
 pub returns-clause-left : goal.returns-clause-left
 returns-clause-left g c =
@@ -81,11 +81,11 @@ returns-clause-left g c =
     let out : SinkSeen = sink_seen O.state c.args.out.now c.run.new.out in
     let made = OutputsOfFit words folder in
     let hint = c.run.new.hint in
-    let numbered = IsKnown (others words) folder hint in
+    let numbered = IsKnown words folder hint in
     let ended = subst (EndsWith made numbered folder out) c.in-Err.is c.run.ensures.ends in
     let err : SinkSeen = sink_seen E.state c.run.new.err c.tell.new.err in
-    let tells = subst (λ h. IsToldAs (fit_message (others words) h) c.in-Err.stop err c.tell.result) c.as_slice.ensures c.tell.ensures in
-    stop_leaves (fit_message (others words) hint) made numbered (IsAskedBy (request_of words) words folder) (fit_refuses words folder) (fit_asked words folder) folder out err c.in-Err.stop c.tell.result ended tells
+    let tells = subst (λ h. IsToldAs (fit_message (request_of words) (others words) h) c.in-Err.stop err c.tell.result) c.as_slice.ensures c.tell.ensures in
+    stop_leaves (fit_message (request_of words) (others words) hint) made numbered (IsAskedBy (request_of words) words folder) (fit_refuses words folder) (fit_asked words folder) folder out err c.in-Err.stop c.tell.result ended tells
 
 pub returns-in-Ok-clause-told : goal.returns-in-Ok-clause-told
 returns-in-Ok-clause-told g c =
@@ -94,7 +94,7 @@ returns-in-Ok-clause-told g c =
     let mid = c.run.new.err in
     let first : SinkSeen = sink_seen E.state c.args.err.now mid in
     let stages = subst (λ r. AreStagesPut words (answer_of r) first) c.in-Ok.is c.run.ensures.stages in
-    (E.state mid, stages, [], tt, refl)
+    (E.state mid, stages, [], no_behind (request_of words) (folder_seen g.F.Folder.state c.args.folder.now c.run.new.folder) (fit_options (others words)) [] Done tt, refl)
 
 pub returns-clause-told : goal.returns-clause-told
 returns-clause-told g c =
@@ -106,18 +106,18 @@ returns-clause-told g c =
     let out : SinkSeen = sink_seen O.state c.args.out.now c.run.new.out in
     let made = OutputsOfFit words folder in
     let hint = c.run.new.hint in
-    let numbered = IsKnown (others words) folder hint in
+    let numbered = IsKnown words folder hint in
     let ended = subst (EndsWith made numbered folder out) c.in-Err.is c.run.ensures.ends in
     let mid = c.run.new.err in
     let first : SinkSeen = sink_seen E.state c.args.err.now mid in
     let err : SinkSeen = sink_seen E.state mid c.tell.new.err in
     let stop = c.in-Err.stop in
-    let tells = subst (λ h. IsToldAs (fit_message (others words) h) stop err c.tell.result) c.as_slice.ensures c.tell.ensures in
-    let message = fit_message (others words) hint in
+    let tells = subst (λ h. IsToldAs (fit_message (request_of words) (others words) h) stop err c.tell.result) c.as_slice.ensures c.tell.ensures in
+    let message = fit_message (request_of words) (others words) hint in
     let stages = subst (λ r. AreStagesPut words (answer_of r) first) c.in-Err.is c.run.ensures.stages in (
       E.state mid,
       stages_told message words stop first err c.tell.result tells stages,
       hint,
-      told_unnamed made message (others words) folder hint out err stop c.tell.result ended tells,
-      stop_tells message made (IsFitNumbering (others words) folder hint) (fit_refuses words folder) (numbers_points (others words) folder hint) folder out err stop c.tell.result (ends_numbered made (others words) folder hint out stop ended) tells,
+      told_behind made message (request_of words) (fit_options (others words)) folder hint out err stop c.tell.result ended tells,
+      stop_tells message made (IsFitNumbering (others words) folder hint) (fit_refuses words folder) (numbers_points (others words) folder hint) folder out err stop c.tell.result (ends_numbered made (request_of words) (fit_options (others words)) folder hint out stop ended) tells,
     )

@@ -1,0 +1,76 @@
+//! The check of meshes that stand far from zero, over a folder in memory.
+
+use far_meshes::check_far_files;
+use mesh_check::{CheckFault, Defect};
+use std::alloc::Global;
+use tet_ports::{Bytes, MemFolder, Name};
+
+/// One tetrahedron whose corners are on a grid of 6400 parts of the unit, far from zero.
+const FAR: &[u8] = b"4 3 0 0\n\
+    0 432100.25390625 5412300.75 -295.78\n\
+    1 432101.25390625 5412300.75 -295.78\n\
+    2 432100.25390625 5412301.75 -295.78\n\
+    3 432100.25390625 5412300.75 -294.78\n";
+
+/// Its third point is 2^30 units and more from the first.
+const WIDE: &[u8] = b"4 3 0 0\n\
+    0 432100.25390625 5412300.75 -295.78\n\
+    1 432101.25390625 5412300.75 -295.78\n\
+    2 432100.25390625 5580500.75 -295.78\n\
+    3 432100.25390625 5412300.75 -294.78\n";
+
+/// Its second point has 36 decimals, and over 36 digits less the middle, which is 5.
+const LONG: &[u8] = b"4 3 0 0\n0 10 0 0\n1 1e-36 0 0\n2 5 9 0\n3 5 1 9\n";
+
+const ROW: &[u8] = b"1 4 0\n0 0 1 2 3\n";
+
+/// What the check of a mesh of one tetrahedron finds: the number of its tetrahedra, the line of a
+/// point off the grid, or the row that is not positive.
+#[derive(Clone, Copy, PartialEq)]
+enum Found {
+    Sound(usize),
+    OffGrid(usize),
+    NotPositive(usize),
+    Other,
+}
+
+/// Meshes of four points and one row, and what is found.
+static CASES: [(&[u8], &[u8], Found); 4] = [
+    (FAR, ROW, Found::Sound(1)),
+    (FAR, b"1 4 0\n0 0 2 1 3\n", Found::NotPositive(0)),
+    (WIDE, ROW, Found::OffGrid(2)),
+    (LONG, ROW, Found::OffGrid(3)),
+];
+
+fn put(alloc: Global, folder: &mut MemFolder, name: &[u8], text: &[u8]) -> Option<()> {
+    let name = Name::from_slice(alloc, name).ok()?;
+    let text = Bytes::from_slice(alloc, text).ok()?;
+    folder.add(&name, &text).ok()
+}
+
+fn finding(alloc: Global, node: &[u8], ele: &[u8]) -> Option<Found> {
+    let mut folder = MemFolder::new(alloc);
+    put(alloc, &mut folder, b"t.node", node)?;
+    put(alloc, &mut folder, b"t.ele", ele)?;
+    let faces = b"4 0\n0 0 1 2\n1 0 1 3\n2 0 2 3\n3 1 2 3\n";
+    put(alloc, &mut folder, b"t.face", faces)?;
+    let base = Name::from_slice(alloc, b"t").ok()?;
+    Some(match check_far_files(alloc, &base, &mut folder) {
+        Ok(count) => Found::Sound(count),
+        Err(CheckFault::OffGrid { line }) => Found::OffGrid(line),
+        Err(
+            CheckFault::Unsound {
+                defect: Defect::NotPositive { row },
+                first: _,
+            },
+        ) => Found::NotPositive(row),
+        Err(_) => Found::Other,
+    })
+}
+
+#[test]
+fn far_meshes_are_checked(rt: HostRuntime) {
+    for (i, (node, ele, want)) in CASES.iter().enumerate() {
+        assert!(rt; finding(rt.alloc(), node, ele) == Some(*want), "mesh {i}");
+    }
+}
