@@ -26,7 +26,7 @@ abbrev range_of : {A : Type 0} → Result A Range → ℕ
 range_of (Ok a) = 0
 range_of (Err r) = r.line
 
-moving_once : (moving : Result (List DecimalPoint) Range) → IsOnce (IsMoving moving)
+pub moving_once : (moving : Result (List DecimalPoint) Range) → IsOnce (IsMoving moving)
 moving_once moving (Ok p) (Ok q) n m h k = cc
 moving_once moving (Ok p) (Err (OffGrid line)) n m h k = absurd (cc)
 moving_once moving (Err (OffGrid line)) (Ok q) n m h k = absurd (cc)

@@ -15,8 +15,9 @@ use std::alloc::Global;
 /// The greatest size of a coordinate, in units of the points' least grid: 2^29.
 const FAR_GRID: u64 = 536_870_912;
 
-/// The points less an origin, or the first point with a coordinate that then has over 36 digits.
-fn moved_points(
+/// The points less an origin, exactly. `OffGrid` with the line of the first point that has a
+/// coordinate of over 36 digits then; or out of memory.
+pub fn moved_points(
     alloc: Global,
     w: WholePoint,
     points: &[DecimalPoint],

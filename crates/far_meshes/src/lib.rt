@@ -7,5 +7,6 @@ mod checking;
 mod laws;
 mod moving;
 
+pub use centering::moved_points;
 pub use checking::check_far_files;
 pub use laws::law_moved;

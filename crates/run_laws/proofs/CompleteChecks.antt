@@ -14,6 +14,7 @@ use Rattle.run_steps.specs.declared.status.Status.{Status}
 use Rattle.run_steps.specs.declared.status.Status.TheVariants.{Done, NoMemory}
 use Rattle.tetgen_run.specs.Run.{AnswerBy}
 use Rattle.tetgen_run.proofs.Checks.{check_same}
+use Rattle.tetwhere_run.specs.Centering.{CenteredTextAnswer}
 use Rattle.tetwhere_run.specs.Locating.{LocateAnswer, answer_text}
 use Rattle.tetwhere_run.specs.Run.{mesh_base_of, queries_of}
 use Rattle.tetwhere_run.proofs.Complete.{answer_complete}
@@ -58,11 +59,18 @@ module _ (folder : FolderSeen) (told : Files) (tells : folder.files_before ≡ S
       (good.rows, spelt (base ++ codes ".ele") _ good.rows good.ele, (good.list, spelt queries _ good.list good.listed, refl)),
     ),
     (
-      record { grid = good.grid; points = map (point_on good.grid) good.nodes.decimals },
-      record { few = good.few; grid = good.on_grid; points = refl },
-      (tt, good.positive, refl),
+      record { nodes = good.nodes; rows = good.rows; queries = good.list },
+      unmoved,
+      (
+        record { grid = good.grid; points = map (point_on good.grid) good.nodes.decimals },
+        record { few = good.few; grid = good.on_grid; points = refl },
+        (tt, good.positive, refl),
+      ),
     ),
   )
+    where
+      unmoved : CenteredTextAnswer (record { nodes = good.nodes; rows = good.rows; queries = good.list }) (Ok (record { nodes = good.nodes; rows = good.rows; queries = good.list }))
+      unmoved = rw (good.on_grid) refl
 
 -- ---- checks
 

@@ -23,7 +23,7 @@ use Rattle.run_steps.specs.declared.status.Status.{Status}
 use Rattle.run_steps.specs.declared.status.Status.TheVariants.{Done, NoMemory}
 use Rattle.tetgen_run.specs.Ends.{HasNoFault}
 use Rattle.tetgen_run.specs.Run.{asks_check, IsAnswerWithin}
-use Rattle.tetwhere_run.specs.Locating.{where_grid}
+use Rattle.tetwhere_run.specs.Grid.{where_grid}
 use Rattle.tetwhere_run.specs.Run.{mesh_base_of, queries_of, HasNoReadFault, IsQueryAnswer}
 use Rattle.tetwhere_run.specs.Words.{bad_word}
 use Rattle.tetwhere_run.specs.declared.status.WhereStatus.{WhereStatus}

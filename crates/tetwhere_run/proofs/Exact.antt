@@ -19,7 +19,7 @@ use Rattle.tetwhere_run.specs.Nearest.{millionths, nearest_coordinate, nearest_p
 use Rattle.tetwhere_run.specs.Corners.{AreEqual, AreEqualPoints, in_millionths}
 use Rattle.tetwhere_run.proofs.Tens.{nearest_of_whole}
 
-cancel : (a b n : ℕ) → 0 < n → a * n ≡ b * n → a ≡ b
+pub cancel : (a b n : ℕ) → 0 < n → a * n ≡ b * n → a ≡ b
 cancel a b n some e = sym (mul-div_cancel a some) ∙ ap (λ (m : ℕ). m / n) e ∙ mul-div_cancel b some
 
 -- so many units, by another decimal of the same number: v / 10^s is w / 10^t
@@ -40,7 +40,7 @@ below : (b n : ℕ) → 0 < n → (negsuc b *ℤ pos n) <ℤ pos 0
 below b n some = let product = mul_neg (pos n) (negsuc b) (omega (arith, ints)) (omega (arith, ints)) in let e = *ℤ_comm (negsuc b) (pos n) in rw e product
 
 -- equal numbers have one sign
-signs_alike : (a b : ℤ) (m n : ℕ) → 0 < m → 0 < n → a *ℤ pos m ≡ b *ℤ pos n → int_lt a (pos 0) ≡ int_lt b (pos 0)
+pub signs_alike : (a b : ℤ) (m n : ℕ) → 0 < m → 0 < n → a *ℤ pos m ≡ b *ℤ pos n → int_lt a (pos 0) ≡ int_lt b (pos 0)
 signs_alike (pos a) (pos b) m n some other same = le-ltb a 0 (omega arith) ∙ sym (le-ltb b 0 (omega arith))
 signs_alike (negsuc a) (negsuc b) m n some other same = refl
 signs_alike (pos a) (negsuc b) m n some other same = absurd (not_both (pos a *ℤ pos m) (negsuc b *ℤ pos n) (mul_nonneg (pos a) (pos m) (omega (arith, ints)) (omega (arith, ints))) (below b n other) same)

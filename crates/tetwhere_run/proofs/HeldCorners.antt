@@ -15,7 +15,7 @@ use Rattle.node_files.specs.LeastGrid.{coarsest, first_over_units, least_grid_of
 use Rattle.node_files.proofs.Greatest.{points_on}
 use Rattle.row_cells.specs.Boxes.{row}
 use Rattle.row_cells.specs.Where.{row_holds}
-use Rattle.tetwhere_run.specs.Locating.{where_grid}
+use Rattle.tetwhere_run.specs.Grid.{where_grid}
 use Rattle.tetwhere_run.specs.Nearest.{nearest_point}
 use Rattle.tetwhere_run.specs.Corners.{in_millionths, KeptPointLaw, HeldCornerLaw}
 use Rattle.tetwhere_run.proofs.Factors.{chosen}

@@ -8,3 +8,4 @@ pub mod Factors
 pub mod Exact
 pub mod ClosedCorners
 pub mod HeldCorners
+pub mod MovedCorners

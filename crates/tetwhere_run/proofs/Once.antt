@@ -1,5 +1,5 @@
 -- The queries are answered in one way at most, where the files are told, no fault rose and memory is not wanting.
-use Rattle.std.proofs.Common.{◌≡◌, ◌<◌, ◌⊎◌, ◌++◌, ◌∙◌, inl, inr, ℕ, List, Result, Ok, Err, refl, sym, ap, arith}
+use Rattle.std.proofs.Common.{◌≡◌, ◌<◌, ◌⊎◌, ◌++◌, ◌∙◌, inl, inr, ℕ, List, Option, Some, None, Result, Ok, Err, refl, sym, ap, arith}
 use Rattle.std.specs.Prelude.{map, codes}
 use Rattle.std.proofs.lemmas.Bool.{cases_order}
 use Rattle.grid_coords.specs.declared.grid.Grid.{Grid}
@@ -14,7 +14,12 @@ use Rattle.tet_ports.specs.Seen.{FolderSeen}
 use Rattle.mesh_check.specs.Steps.{Gives}
 use Rattle.mesh_check.specs.declared.fault.CheckFault.TheVariants.{Missing, ReadFault, TooLong, BadText, TooMany, OffGrid, Unsound, NoMemory}
 use Rattle.mesh_check.proofs.Once.{IsOnce, IsTold, and_then_once, file_once}
-use Rattle.tetwhere_run.specs.Locating.{SettledAnswer, PositiveAnswer, TextLocated, LocateAnswer, answer_text}
+use Rattle.far_meshes.proofs.Once.{moving_once}
+use Rattle.far_meshes.specs.Centering.{MovedAnswer}
+use Rattle.far_meshes.specs.Moving.{moved_from}
+use Rattle.grid_coords.specs.declared.origin.WholePoint.{WholePoint}
+use Rattle.tetwhere_run.specs.Centering.{CenteredTextAnswer, MovedTextAnswer, origin_for, with_places}
+use Rattle.tetwhere_run.specs.Locating.{SettledAnswer, PositiveAnswer, IsLocatedOnGrid, TextLocated, LocateAnswer, answer_text}
 use Rattle.tetwhere_run.specs.Reading.{WhereTextAnswer}
 use Rattle.tetwhere_run.specs.declared.reading.WhereText.{WhereText}
 use Rattle.tetwhere_run.specs.declared.settling.Settled.{Settled}
@@ -93,12 +98,25 @@ positive_once text s (Ok done) (Err t) n m h k = absurd k
 positive_once text s (Err (Unsound (NotPositive i) f)) (Err t) n m h k = absurd k
 positive_once text s (Err t) r n m h k = absurd h
 
+-- ---- the origin
+
+moved_text_once : (origin : Option WholePoint) (text : WhereText) → IsOnce (MovedTextAnswer origin text)
+moved_text_once None text = gives_once text
+moved_text_once (Some w) text =
+    and_then_once (MovedAnswer w text.nodes.decimals) _ (moving_once (moved_from w text.nodes.decimals))
+    (λ ps. and_then_once (MovedAnswer w text.queries.decimals) _ (moving_once (moved_from w text.queries.decimals))
+    (λ qs. gives_once (with_places text ps qs)))
+
 -- ---- the whole
+
+on_grid_once : (text : WhereText) → IsOnce (IsLocatedOnGrid text)
+on_grid_once text =
+    and_then_once (SettledAnswer text.nodes.decimals) _ (settled_once text.nodes.decimals)
+    (λ settled. and_then_once (PositiveAnswer text settled) _ (positive_once text settled)
+    (λ done. gives_once (answer_text text settled)))
 
 -- where the files are told and no fault rose, the queries have one answer beside want of memory
 pub locate_once : (told : Files) (seen : FolderSeen) (base queries : List ℕ) → IsTold told seen → IsOnce (LocateAnswer seen base queries)
 locate_once told seen base queries t =
     and_then_once (WhereTextAnswer seen base queries) TextLocated (text_once told seen base queries t)
-    (λ text. and_then_once (SettledAnswer text.nodes.decimals) _ (settled_once text.nodes.decimals)
-    (λ settled. and_then_once (PositiveAnswer text settled) _ (positive_once text settled)
-    (λ done. gives_once (answer_text text settled))))
+    (λ text. and_then_once (CenteredTextAnswer text) IsLocatedOnGrid (moved_text_once (origin_for text.nodes.decimals) text) on_grid_once)

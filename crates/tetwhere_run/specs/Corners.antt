@@ -1,10 +1,13 @@
 -- Queries at points of the mesh.
-use Rattle.std.specs.Prelude.{◌≡◌, ℕ, ◌^◌, ◌<◌, ◌*ℤ◌, pos, List, length, Some, Any, Contains, HoldsAt}
+use Rattle.std.specs.Prelude.{◌≡◌, ℕ, ◌^◌, ◌<◌, ◌*ℤ◌, pos, true, List, length, Some, Any, Contains, HoldsAt}
 use Rattle.sign_predicates.specs.Point.{Point, RationalPoint}
 use Rattle.tet_text.specs.Decimals.{Scaled}
 use Rattle.geo_laws.specs.Delaunay.{point, numbers}
 use Rattle.geo_laws.specs.declared.tetrahedra.Tet.{Tet}
+use Rattle.grid_coords.specs.Origins.{moved_point}
+use Rattle.grid_coords.specs.declared.origin.WholePoint.{WholePoint}
 use Rattle.grid_coords.specs.declared.points.DecimalPoint.{DecimalPoint}
+use Rattle.far_meshes.specs.Moving.{is_short_from}
 use Rattle.row_cells.specs.Parts.{ArePositiveOn}
 use Rattle.row_cells.specs.Where.{first_holding}
 use Rattle.tetwhere_run.specs.Locating.{IsSettledMesh}
@@ -20,6 +23,11 @@ pub record AreEqualPoints (p q : DecimalPoint) : Type 0 where
   pub x : AreEqual p.x q.x
   pub y : AreEqual p.y q.y
   pub z : AreEqual p.z q.z
+
+-- equal points less a point with whole coordinates are equal, so that these laws are true of a mesh and queries that are measured from it
+abbrev pub MovedPointLaw : Type 0
+MovedPointLaw = (w : WholePoint) (query p : DecimalPoint) → is_short_from w query ≡ true → is_short_from w p ≡ true
+    → AreEqualPoints query p → AreEqualPoints (moved_point w query) (moved_point w p)
 
 -- a grid point, over the denominator 10^6
 abbrev pub in_millionths : Point → RationalPoint

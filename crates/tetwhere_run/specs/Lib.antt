@@ -3,6 +3,8 @@ pub mod Stops
 pub mod Messages
 pub mod Run
 pub mod Reading
+pub mod Grid
+pub mod Centering
 pub mod Locating
 pub mod Words
 pub mod Nearest

@@ -13,14 +13,12 @@ use Rattle.tet_ports.specs.Seen.{FolderSeen}
 use Rattle.mesh_check.specs.Steps.{AndThen, Gives}
 use Rattle.mesh_check.specs.declared.fault.CheckFault.{CheckFault}
 use Rattle.mesh_check.specs.declared.fault.CheckFault.TheVariants.{Unsound, NoMemory}
+use Rattle.tetwhere_run.specs.Centering.{CenteredTextAnswer}
+use Rattle.tetwhere_run.specs.Grid.{where_grid}
 use Rattle.tetwhere_run.specs.Nearest.{nearest_point}
 use Rattle.tetwhere_run.specs.Reading.{WhereTextAnswer}
 use Rattle.tetwhere_run.specs.declared.reading.WhereText.{WhereText}
 use Rattle.tetwhere_run.specs.declared.settling.Settled.{Settled}
-
--- how large a coordinate of a mesh may be, in units of the points' least grid
-abbrev pub where_grid : ℕ
-where_grid = 536870912
 
 -- there are not too many points, and these are their least grid and the points on it
 pub record IsSettledMesh (ps : List DecimalPoint) (s : Settled) : Type 0 where
@@ -65,12 +63,17 @@ answer_text text s = query_lines text s 0 text.queries.decimals
 abbrev pub AnswersAnswer : WhereText → Settled → Result (List ℕ) CheckFault → Type 0
 AnswersAnswer text s = Gives (answer_text text s)
 
--- the answers to the queries that the files spell
-abbrev pub TextLocated : WhereText → Result (List ℕ) CheckFault → Type 0
-TextLocated text =
+-- the answers to queries over a mesh that is measured as the queries are
+abbrev pub IsLocatedOnGrid : WhereText → Result (List ℕ) CheckFault → Type 0
+IsLocatedOnGrid text =
     AndThen (SettledAnswer text.nodes.decimals)
     (λ settled. AndThen (PositiveAnswer text settled)
     (λ done. AnswersAnswer text settled))
+
+-- the answers to the queries that the files spell; where the points are off the grid from zero, points and queries are measured from the
+-- middle of the points' box
+abbrev pub TextLocated : WhereText → Result (List ℕ) CheckFault → Type 0
+TextLocated text = AndThen (CenteredTextAnswer text) IsLocatedOnGrid
 
 -- The answers to the queries of a file over the mesh with this base, or the first refusal in this order: of each file in turn its fetch and
 -- its text, then too many points, a point off the grid, and the first row that is not positive

@@ -4,8 +4,10 @@ ghost use Rattle.std.specs.Prelude.{◌≡◌, ◌≤◌, ◌<◌, ◌+◌, ◌-
 ghost use Rattle.mesh_files.specs.ReadRows.{AreCornersBelow};
 ghost use Rattle.row_cells.specs.Parts.{ArePositiveOn, StandsFor};
 ghost use Rattle.tet_ports.specs.Seen.{IsOnlyRead, folder_seen};
-ghost use Rattle.tetwhere_run.specs.Locating.{found_row_text, query_line, answer_text, AnswersAnswer, TextLocated, LocateAnswer};
+ghost use Rattle.tetwhere_run.specs.Locating.{found_row_text, query_line, answer_text, AnswersAnswer};
+ghost use Rattle.tetwhere_run.specs.Locating.{IsLocatedOnGrid, TextLocated, LocateAnswer};
 
+use crate::centering::centered;
 use crate::nearest::nearest_rat;
 use crate::reading::{WhereText, read_where};
 use crate::settling::{Settled, settle, want_positive};
@@ -63,20 +65,30 @@ fn answers(alloc: Global, text: &WhereText, settled: &Settled) -> Result<Bytes, 
     Ok(lines)
 }
 
-fn locate_text(alloc: Global, text: &WhereText) -> Result<Bytes, CheckFault>
+/// The answers to queries over a mesh that is measured as the queries are.
+fn locate_on_grid(alloc: Global, text: &WhereText) -> Result<Bytes, CheckFault>
     requires { All (AreCornersBelow (length text.now.nodes.decimals)) text.now.rows }
-    ensures { TextLocated text.now result }
+    ensures { IsLocatedOnGrid text.now result }
 {
     let settled = settle(alloc, &text.nodes.decimals)?;
     want_positive(text, &settled)?;
     answers(alloc, text, &settled)
 }
 
+fn locate_text(alloc: Global, text: WhereText) -> Result<Bytes, CheckFault>
+    requires { All (AreCornersBelow (length text.nodes.decimals)) text.rows }
+    ensures { TextLocated text result }
+{
+    let text = centered(alloc, text)?;
+    locate_on_grid(alloc, &text)
+}
+
 /// The answers to the queries of a file over the mesh with this base: for each query in order a
 /// line with its number and that of the first tetrahedron whose closure holds it, or -1. It refuses
 /// with the first in this order: of each file in turn its fetch, with `Missing`, `ReadFault` or
 /// `TooLong`, and its text; over 120,000 points; a coordinate off the grid; the first tetrahedron
-/// that is not positively oriented; or when out of memory. It stores nothing.
+/// that is not positively oriented; or when out of memory. Where the points are off the grid from
+/// zero, they and the queries are measured from the middle of the points' box. It stores nothing.
 pub fn locate_files<F: Folder>(
     alloc: Global,
     base: &Name,
@@ -88,5 +100,5 @@ pub fn locate_files<F: Folder>(
     ensures only_read { IsOnlyRead (folder_seen F.state folder.old folder.new) }
 {
     let text = read_where(alloc, base, queries, folder)?;
-    locate_text(alloc, &text)
+    locate_text(alloc, text)
 }

@@ -3,6 +3,7 @@
 #![tactic(auto)]
 
 mod answers;
+mod centering;
 mod halvings;
 mod messages;
 mod nearest;
@@ -14,6 +15,6 @@ mod status;
 mod stop;
 mod words;
 
-pub use nearest_laws::{law_held_corner, law_kept_point};
+pub use nearest_laws::{law_held_corner, law_kept_point, law_moved_point};
 pub use run::run_where;
 pub use status::WhereStatus;

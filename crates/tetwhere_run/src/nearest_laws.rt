@@ -1,6 +1,6 @@
 //! Queries at points of the mesh, over the definitions alone.
 
-ghost use Rattle.tetwhere_run.specs.Corners.{HeldCornerLaw, KeptPointLaw};
+ghost use Rattle.tetwhere_run.specs.Corners.{HeldCornerLaw, KeptPointLaw, MovedPointLaw};
 
 /// A query that is a point of the mesh, as decimal numbers, is rounded to exactly that point.
 pub fn law_kept_point()
@@ -11,4 +11,10 @@ pub fn law_kept_point()
 /// positive.
 pub fn law_held_corner()
     ensures { HeldCornerLaw }
+{}
+
+/// A query that is a point of the mesh, as decimal numbers, is so too where both are measured from
+/// a point with whole coordinates.
+pub fn law_moved_point()
+    ensures { MovedPointLaw }
 {}

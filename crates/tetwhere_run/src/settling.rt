@@ -15,7 +15,7 @@ use std::alloc::Global;
 
 /// The greatest size of a coordinate of a mesh, in units of the points' least grid: that of
 /// `tetfit`.
-const GRID: u64 = 536_870_912;
+pub(crate) const GRID: u64 = 536_870_912;
 
 /// The least grid of a mesh's points, and these points on it.
 #[derive(Drop)]

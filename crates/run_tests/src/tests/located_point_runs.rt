@@ -21,6 +21,12 @@ const HALVED_ROWS: &[u8] = b"1 4 0\n0 0 1 2 3\n";
 
 const AT_THE_CORNER: &[u8] = b"2 3 0 0\n0 1.0078125 0 0\n1 1.00781251 0 0\n";
 
+/// Off the grid from zero: its unit is 1 / 2^8.
+const FAR: &[u8] =
+    b"4 3 0 0\n0 5412300 0 0\n1 5412301.00390625 0 0\n2 5412300 1 0\n3 5412300 0 1\n";
+
+const AT_THE_FAR_CORNER: &[u8] = b"2 3 0 0\n0 5412301.00390625 0 0\n1 5412301.0039063 0 0\n";
+
 /// The pyramid with its rows, and queries.
 const HELD: [File<'static>; 3] = [
     (b"p.node", &[PYRAMID]),
@@ -28,7 +34,7 @@ const HELD: [File<'static>; 3] = [
     (b"q", &[QUERIES]),
 ];
 
-static QUERIED: [Run<'static>; 8] = [
+static QUERIED: [Run<'static>; 9] = [
     Run {
         name: "inside, on the face between, and outside",
         held: &HELD,
@@ -42,6 +48,17 @@ static QUERIED: [Run<'static>; 8] = [
             (b"p.node", &[HALVED]),
             (b"p.ele", &[HALVED_ROWS]),
             (b"q", &[AT_THE_CORNER]),
+        ],
+        words: &[b"p", b"q"],
+        end: Told(b"0 0\n1 -1\n"),
+        files: &[],
+    },
+    Run {
+        name: "a corner far from zero and a point beside it",
+        held: &[
+            (b"p.node", &[FAR]),
+            (b"p.ele", &[HALVED_ROWS]),
+            (b"q", &[AT_THE_FAR_CORNER]),
         ],
         words: &[b"p", b"q"],
         end: Told(b"0 0\n1 -1\n"),
