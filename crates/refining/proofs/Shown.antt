@@ -4,7 +4,7 @@ use Rattle.std.proofs.lemmas.List.Elements.{All-append, All-cons, All-nil}
 use Rattle.std.proofs.Common.{◌∷◌, ◌≡◌}
 use Rattle.command_words.specs.declared.options.Options.{Options}
 use Rattle.run_steps.specs.declared.mesh.Bound.{Bound}
-use Rattle.refining.specs.Rounds.{AreShown, IsRoundOf, round_of}
+use Rattle.refining.specs.Rounds.{AreShown, IsRoundIn, IsRoundOf, frame_of}
 use Rattle.refining.specs.Refining.{IsTakenMesh}
 use Rattle.refining.specs.declared.goal.ShapeBounds.{ShapeBounds}
 use Rattle.refining.specs.declared.refining.Taken.{Taken}
@@ -16,7 +16,7 @@ none_shown shown nothing shapes options bound s = ([], All-nil (IsRoundOf shapes
 
 -- one round is shown
 pub one_shown : {S : Type 0} (shown : List Round → S → S → Type 0) (shapes : ShapeBounds) (options : Options) (bound : Bound) (taken : Taken) (round : Round) (s t : S) → IsTakenMesh options bound taken
-    → round ≡ round_of shapes taken.made → shown (round ∷ []) s t → AreShown shown shapes options bound s t
+    → IsRoundIn shapes (frame_of options bound) taken.made round → shown (round ∷ []) s t → AreShown shown shapes options bound s t
 one_shown shown shapes options bound taken round s t h e k =
     let P = IsRoundOf shapes options bound in
     (round ∷ [], All-cons P round [] (taken, h, e) (All-nil P), k)

@@ -1,5 +1,5 @@
 -- What the tetrahedra of a refined mesh are to be like.
-use Rattle.std.specs.Prelude.{◌≤◌, List, Option, None, Some, IfSome, option_and_then, if◌then◌else◌}
+use Rattle.std.specs.Prelude.{ℕ, ◌≤◌, List, Option, None, Some, IfSome, option_and_then, if◌then◌else◌}
 use Rattle.std.specs.Option.{option_map}
 use Rattle.grid_coords.specs.declared.grid.Grid.{Grid}
 use Rattle.run_steps.specs.declared.mesh.Bound.{Bound}
@@ -30,7 +30,11 @@ goal_volumes grid goal limits = if goal.bounds_volumes then Some (volume_bounds 
 abbrev pub shape_ratio : Shape → Ratio
 shape_ratio shape = shape.ratio
 
--- the squared cosine of the least dihedral angle of a shape, where it has one
+-- the least dihedral angle of a shape in degrees, where it has one
+abbrev pub shape_angle : Shape → Option ℕ
+shape_angle shape = shape.angle
+
+-- and its squared cosine
 abbrev pub shape_cosine : Shape → Option Ratio
 shape_cosine shape = option_map squared_cosine shape.angle
 
@@ -39,5 +43,6 @@ abbrev pub shape_bounds : Bound → Goal → List (Option Scaled) → ShapeBound
 shape_bounds bound goal limits = record {
   volumes = goal_volumes bound.table.grid goal limits;
   ratio = option_map shape_ratio goal.shape;
+  angle = option_and_then shape_angle goal.shape;
   cosine = option_and_then shape_cosine goal.shape;
 }

@@ -5,5 +5,6 @@ pub mod Addable
 pub mod Laws
 pub mod Corners
 pub mod Counts
+pub mod Worst
 pub mod Rounds
 pub mod Refined

@@ -5,7 +5,7 @@ ghost use Rattle.std.specs.Option.{option_map};
 ghost use Rattle.tet_shapes.specs.Angle.{squared_cosine};
 ghost use Rattle.tet_shapes.specs.Shape.{IsFine};
 ghost use Rattle.refining.specs.Goals.{IsFineGoal, IsFineShape, goal_volumes, shape_bounds};
-ghost use Rattle.refining.specs.Goals.{shape_cosine, shape_ratio};
+ghost use Rattle.refining.specs.Goals.{shape_angle, shape_cosine, shape_ratio};
 
 use grid_coords::Grid;
 use run_steps::Bound;
@@ -44,7 +44,9 @@ pub struct ShapeBounds {
     pub volumes: Option<VolumeBounds>,
     /// The greatest ratio of the circumradius to the shortest edge.
     pub ratio: Option<Ratio>,
-    /// The squared cosine of the least dihedral angle that is aimed at.
+    /// The least dihedral angle that is aimed at, in degrees.
+    pub angle: Option<u32>,
+    /// The squared cosine of this angle.
     pub cosine: Option<Ratio>,
 }
 
@@ -55,6 +57,13 @@ fn shape_ratio(shape: Option<Shape>) -> Option<Ratio>
     ensures fine { IfSome result IsFine }
 {
     Some(shape?.ratio)
+}
+
+/// The least dihedral angle that is aimed at, in degrees, where there is one.
+fn shape_angle(shape: Option<Shape>) -> Option<u32>
+    ensures { result ≡ option_and_then shape_angle shape }
+{
+    shape?.angle
 }
 
 /// The squared cosine of the least dihedral angle that is aimed at, where there is one.
@@ -102,6 +111,7 @@ pub fn shape_bounds(
     Ok(ShapeBounds {
         volumes,
         ratio: shape_ratio(goal.shape),
+        angle: shape_angle(goal.shape),
         cosine: shape_cosine(goal.shape),
     })
 }

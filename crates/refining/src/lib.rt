@@ -22,6 +22,7 @@ mod refine_fault;
 mod refining;
 mod repeats;
 mod watch;
+mod worst;
 
 pub use counts::Counts;
 pub use goal::{Goal, Shape, ShapeBounds, shape_bounds};
@@ -31,4 +32,5 @@ pub use plain::law_plain;
 pub use propose::Propose;
 pub use quality::Quality;
 pub use refining::{Bounds, Refined};
-pub use watch::{Round, Watch};
+pub use watch::{Frame, Round, Watch};
+pub use worst::{LargeRatio, SmallAngle, Worst};

@@ -6,7 +6,7 @@ ghost use Rattle.run_steps.specs.Meshing.{IsMeshableBound, IsUnmeshed};
 ghost use Rattle.run_steps.specs.Outputs.{IsWritable};
 ghost use Rattle.run_steps.specs.Codes.{status_of_fault};
 ghost use Rattle.refining.specs.Refining.{IsRefinedTo, IsTakenMesh, IsTurn};
-ghost use Rattle.refining.specs.Rounds.{AreShown};
+ghost use Rattle.refining.specs.Rounds.{AreShown, frame_of};
 ghost use Rattle.tet_shapes.specs.Shape.{IsFine};
 
 use crate::addable::addable;
@@ -16,7 +16,7 @@ use crate::meshing::{mesh_plain, mesh_with};
 use crate::part::Part;
 use crate::placing::placed;
 use crate::propose::Propose;
-use crate::watch::{Watch, round_of};
+use crate::watch::{Frame, Watch, round_of};
 use command_words::Options;
 use complex_mesh::{ComplexMesh, MeshFault};
 use geo_laws::Points;
@@ -226,6 +226,16 @@ fn next_taken<P: Propose>(
     }
 }
 
+/// What the coordinates of the meshes of a complex are in.
+fn frame_of(options: &Options, bound: &Bound) -> Frame
+    ensures { result ≡ frame_of options.now bound.now }
+{
+    Frame {
+        grid: bound.table.grid,
+        origin: options.origin,
+    }
+}
+
 /// Shows the mesh of a round, where that is asked for.
 fn show<W: Watch>(
     alloc: Global,
@@ -233,13 +243,15 @@ fn show<W: Watch>(
     taken: &Taken,
     watch: &mut W,
 ) -> Result<(), NoMemory>
+    requires bound { IsMeshableBound task.options.now task.bound.now }
     requires taken { IsTakenMesh task.options.now task.bound.now taken.now }
     requires fine { IfSome task.bounds.now.shapes.now.ratio IsFine }
     ensures { AreShown W.shown task.entry.bounds.now.shapes.now task.entry.options.now
         task.entry.bound.now watch.old watch.new }
 {
     if watch.asks() {
-        let round = round_of(&taken.made, task.bounds.shapes);
+        let frame = frame_of(task.options, task.bound);
+        let round = round_of(&taken.made, task.bounds.shapes, frame);
         watch.show(alloc, &round)?;
     }
     Ok(())

@@ -3,26 +3,40 @@
 ghost use Rattle.std.specs.Prelude.{◌≡◌, ◌++◌, ◌∷◌, [], List, All, IfSome, OnErr, OnOk, length};
 ghost use Rattle.geo_laws.specs.Delaunay.{IsOn};
 ghost use Rattle.tet_shapes.specs.Shape.{IsFine};
-ghost use Rattle.refining.specs.Rounds.{round_of};
+ghost use Rattle.refining.specs.Rounds.{IsRoundIn};
 
 use crate::counts::{Counts, Marked, counts_of};
 use crate::goal::ShapeBounds;
+use crate::worst::{Worst, worst_in};
 use complex_mesh::ComplexMesh;
+use grid_coords::{Grid, WholePoint};
 use std::alloc::Global;
 use tet_ports::NoMemory;
 
-/// The mesh of a round, by its numbers.
+/// The unit of the coordinates of a mesh, and the origin from which they are measured, where there
+/// is one.
+#[derive(Clone, Copy, Debug, PartialEq, Eq)]
+pub struct Frame {
+    pub grid: Grid,
+    pub origin: Option<WholePoint>,
+}
+
+/// The mesh of a round, by its numbers and by where it is worst.
 #[derive(Clone, Copy, Debug, PartialEq, Eq)]
 pub struct Round {
     pub points: usize,
     pub tetrahedra: usize,
     /// How many tetrahedra are beyond each bound.
     pub counts: Counts,
+    /// What the coordinates of `worst` are in.
+    pub frame: Frame,
+    pub worst: Worst,
 }
 
 /// Is shown the mesh of each round.
 pub trait Watch {
     ghost use Rattle.refining.specs.declared.watch.Round.{Round};
+    ghost use Rattle.refining.specs.Rounds.{IsPrintable};
 
     /// It was shown these rounds from one of its states to another.
     ghost shown: { List Round → Self → Self → Type 0 };
@@ -32,6 +46,7 @@ pub trait Watch {
 
     /// Takes note of a round; refuses when out of memory, and then it was shown none.
     fn show(&mut self, alloc: Global, round: &Round) -> Result<(), NoMemory>
+        requires { IsPrintable round.now.frame }
         ensures shown { OnOk result (shown (round.now ∷ []) self.old self.new) }
         ensures kept { OnErr result (shown [] self.old self.new) };
 
@@ -43,11 +58,11 @@ pub trait Watch {
         → shown (a ++ b) s u };
 }
 
-/// The numbers of a mesh.
-pub(crate) fn round_of(made: &ComplexMesh, shapes: &ShapeBounds) -> Round
+/// The numbers of a mesh whose coordinates are in this frame, and where it is worst.
+pub(crate) fn round_of(made: &ComplexMesh, shapes: &ShapeBounds, frame: Frame) -> Round
     requires on { All (IsOn made.now.points) made.now.tetrahedra }
     requires fine { IfSome shapes.now.ratio IsFine }
-    ensures { result ≡ round_of shapes.now made.now }
+    ensures { IsRoundIn shapes.now frame made.now result }
 {
     let mesh = Marked {
         points: &made.points,
@@ -58,5 +73,7 @@ pub(crate) fn round_of(made: &ComplexMesh, shapes: &ShapeBounds) -> Round
         points: made.points.len(),
         tetrahedra: made.tetrahedra.len(),
         counts: counts_of(mesh, shapes),
+        frame,
+        worst: worst_in(&made.points, &made.tetrahedra, shapes),
     }
 }

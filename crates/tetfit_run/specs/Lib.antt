@@ -3,6 +3,7 @@ pub mod Messages
 pub mod Outputs
 pub mod Refined
 pub mod Run
+pub mod Coordinates
 pub mod Stages
 pub mod Said
 pub mod Words

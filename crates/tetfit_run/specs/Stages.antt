@@ -8,6 +8,7 @@ use Rattle.run_steps.specs.declared.status.Status.TheVariants.{Done, NoMemory, W
 use Rattle.tet_ports.specs.Counts.{Rose}
 use Rattle.tet_ports.specs.Seen.{IsMessagePut, SinkSeen, SinkState, sink_seen}
 use Rattle.tet_ports.specs.Written.{PartlyPut, with_written}
+use Rattle.tetfit_run.specs.Coordinates.{least_text, greatest_text}
 use Rattle.tetfit_run.specs.Words.{asks_stages, request_of}
 use Rattle.tetfit_run.specs.declared.request.Request.{Request}
 use Rattle.tetfit_run.specs.declared.request.Request.TheVariants.{Mesh}
@@ -25,12 +26,14 @@ says_stages words = asks_stages words && is_mesh (request_of words)
 abbrev pub stage_text : Bool → List ℕ → List ℕ
 stage_text says text = if says then text else []
 
--- the line of a round of added points: the numbers of points and of tetrahedra of its mesh, and of those that are beyond each bound
+-- the line of a round of added points: the numbers of points and of tetrahedra of its mesh, and of those that are beyond each bound;
+-- then where the mesh is worst
 abbrev pub round_text : Round → List ℕ
 round_text round =
     codes "tetfit: points " ++ decimal round.points ++ codes " tetrahedra " ++ decimal round.tetrahedra
     ++ counted_text (codes " over ") round.counts.over ++ counted_text (codes " slim ") round.counts.slim
-    ++ counted_text (codes " flat ") round.counts.flat ++ (10 ∷ [])
+    ++ counted_text (codes " flat ") round.counts.flat ++ least_text round.frame round.worst.angle
+    ++ greatest_text round.frame round.worst.ratio ++ (10 ∷ [])
 
 abbrev pub rounds_text : List Round → List ℕ
 rounds_text [] = []

@@ -1,9 +1,12 @@
 //! The stages of a mesh, said where the words ask for them.
 
 ghost use Rattle.std.specs.Prelude.{◌≡◌, ◌++◌, ◌∷◌, [], true, IfOk, OnOk};
+ghost use Rattle.refining.specs.Rounds.{IsPrintable};
 ghost use Rattle.run_steps.specs.Reports.{counted_text};
+ghost use Rattle.tetfit_run.specs.Coordinates.{least_text, greatest_text};
 ghost use Rattle.tetfit_run.specs.Stages.{is_mesh, says_stages, stage_text, round_text, IsSaid};
 
+use crate::coordinates::{append_greatest, append_least};
 use crate::request::{Request, asks_stages, request_of};
 use mesh_check::append_number;
 use refining::{Round, Watch};
@@ -44,8 +47,9 @@ fn put_stage<E: Sink>(says: bool, goes_on: bool, stage: &[u8], err: &mut E) -> b
 }
 
 /// The line of a round: the numbers of points and of tetrahedra of its mesh, and of those that are
-/// beyond each bound.
+/// beyond each bound; then where the mesh is worst.
 fn round_line(alloc: Global, round: &Round) -> Result<Bytes, NoMemory>
+    requires { IsPrintable round.now.frame }
     ensures { IfOk result (λ line. line ≡ round_text round.now) }
 {
     let mut line = Bytes::from_slice(alloc, b"tetfit: points ")?;
@@ -55,6 +59,8 @@ fn round_line(alloc: Global, round: &Round) -> Result<Bytes, NoMemory>
     append_counted(&mut line, b" over ", round.counts.over)?;
     append_counted(&mut line, b" slim ", round.counts.slim)?;
     append_counted(&mut line, b" flat ", round.counts.flat)?;
+    append_least(&mut line, &round.frame, &round.worst.angle)?;
+    append_greatest(&mut line, &round.frame, &round.worst.ratio)?;
     line.append(b"\n")?;
     Ok(line)
 }

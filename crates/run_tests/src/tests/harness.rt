@@ -20,6 +20,8 @@ pub(crate) enum End<'a> {
     Done,
     /// Well, with this summary.
     Told(&'a [u8]),
+    /// Well, with this summary, and these stages on the other stream.
+    Staged(&'a [u8], &'a [u8]),
     /// With this status and this message, and no summary.
     Refused(u8, &'a [u8]),
     /// With this status, this beginning of a summary, and this message.
@@ -184,6 +186,11 @@ fn said_of(end: End) -> Said {
             code: 0,
             out: Some(text),
             err: b"",
+        },
+        End::Staged(text, stages) => Said {
+            code: 0,
+            out: Some(text),
+            err: stages,
         },
         End::Refused(code, message) => Said {
             code,

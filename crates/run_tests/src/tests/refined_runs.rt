@@ -1,6 +1,6 @@
 //! Runs that bound the volume and the shape of tetrahedra, over a folder and streams in memory.
 
-use crate::tests::harness::End::{Refused, Told};
+use crate::tests::harness::End::{Refused, Staged, Told};
 use crate::tests::harness::Program::Tetfit;
 use crate::tests::harness::{Run, other_run};
 use std::test::Fail;
@@ -235,6 +235,65 @@ static SHAPED: [Run<'static>; 12] = [
         files: &[],
     },
 ];
+
+/// Of the box, where the ratio is to be 2 and no angle below 8 degrees: the ratio of each
+/// tetrahedron is 5.68, and the least angle of the second one is 7.1 degrees.
+const STAGES: &[u8] = b"\
+tetfit: reads and meshes the model\n\
+tetfit: points 8 tetrahedra 6 slim 6 flat 4 least angle 7 at 8 0 0 \
+greatest ratio over 2 times the bound at 0 0 0\n\
+tetfit: stores the files\n";
+
+/// Where the ratio is to be 5 and no angle below 7 degrees.
+const RATIO_STAGES: &[u8] = b"\
+tetfit: reads and meshes the model\n\
+tetfit: points 8 tetrahedra 6 slim 6 flat 0 greatest ratio over 1 times the bound at 0 0 0\n\
+tetfit: stores the files\n";
+
+/// Of the cube, where no tetrahedron is slim or flat.
+const GOOD_STAGES: &[u8] = b"\
+tetfit: reads and meshes the model\n\
+tetfit: points 8 tetrahedra 6 slim 0 flat 0\n\
+tetfit: stores the files\n";
+
+static STAGED: [Run<'static>; 3] = [
+    Run {
+        name: "angles and ratios, and where they are worst",
+        held: &[(b"c.smesh", &[FLAT_BOX])],
+        words: &[b"-V", b"-NEFS0", b"-q2/8", b"c.smesh"],
+        end: Staged(
+            b"points 8 added 0 tetrahedra 6 faces 18 edges 19 decimals 0 slim 6 flat 4\n",
+            STAGES,
+        ),
+        files: &[],
+    },
+    Run {
+        name: "ratios alone",
+        held: &[(b"c.smesh", &[FLAT_BOX])],
+        words: &[b"-V", b"-NEFS0", b"-q5/7", b"c.smesh"],
+        end: Staged(
+            b"points 8 added 0 tetrahedra 6 faces 18 edges 19 decimals 0 slim 6 flat 0\n",
+            RATIO_STAGES,
+        ),
+        files: &[],
+    },
+    Run {
+        name: "no angle and no ratio",
+        held: &[(b"c.smesh", &[CUBE])],
+        words: &[b"-V", b"-NEF", b"-q", b"c.smesh"],
+        end: Staged(
+            b"points 8 added 0 tetrahedra 6 faces 18 edges 19 decimals 0 slim 0 flat 0\n",
+            GOOD_STAGES,
+        ),
+        files: &[],
+    },
+];
+
+#[test]
+fn rounds_that_are_said(rt: HostRuntime) -> Result<(), Fail> {
+    assert_eq!(rt; other_run(rt.alloc(), Tetfit, &STAGED)?, None);
+    Ok(())
+}
 
 #[test]
 fn volumes_of_tetrahedra(rt: HostRuntime) -> Result<(), Fail> {
