@@ -164,6 +164,7 @@ def of_a_surface():
     """A run of tetfit, which takes a surface as it is found."""
     line, files = tetgen.run(["-q100", "-NF", "--msh", "t.off"], {"t.off": SURFACE}, program="tetfit")
     assert line == "points 4 added 0 tetrahedra 1 faces 4 edges 6 decimals 1 slim 0 flat 1\n" and sorted(files) == ["t.1.ele", "t.1.msh"]
+    assert sorted(tetgen.run(["-NF", "t.OFF"], {"t.OFF": SURFACE}, program="tetfit")[1]) == ["t.1.ele"]
     assert run_refused(["-q", "t.off"], {}, "tetfit")[0] == 2 and run_refused(["-x", "t.off"], {}, "tetfit")[0] == 1
 
 

@@ -33,6 +33,8 @@ NO_REGION = NO_NEIGHBOR = 2**32 - 1
 # The endings of the files that the programs may write, and of those that they read.
 _WRITTEN = (".node", ".ele", ".face", ".edge", ".neigh", ".vtk", ".msh")
 _READ = (".node", ".poly", ".smesh", ".off", ".stl")
+# Those of surfaces, which tetfit takes in letters of either case.
+_SURFACES = (".off", ".stl")
 
 
 class _Slice(ctypes.Structure):
@@ -289,12 +291,13 @@ def _array(kind, rows):
     return (kind * max(1, len(rows)))(*(kind(*(it for part in row for it in (part, len(part)))) for row in rows))
 
 
-def _outputs(words):
+def _outputs(words, program):
     """The names of the files that the words may ask for."""
     names = [it for it in words if not it.startswith("-")]
     base = names[-1] if names else ""
-    stem, dot, ending = base.rpartition(".")
-    base = stem if dot + ending in _READ else base
+    stem, dot, rest = base.rpartition(".")
+    if dot + rest in _READ or (program == "tetfit" and dot + rest.lower() in _SURFACES):
+        base = stem
     return [f"{base}.1{ending}" for ending in _WRITTEN]
 
 
@@ -302,7 +305,7 @@ def run(words, files, wanted=None, *, program="tetgen"):
     """Runs a program, tetgen or tetfit, on these words, as ["-pn", "box.poly"], over a folder in memory with these files alone, a dict of names and
     texts (bytes, or str). Answers what the program prints, and a dict with the bytes of the files that are wanted and there afterwards: those with the
     names in `wanted`, or else all that the words may ask for. No file of the system is read or written."""
-    wanted = _outputs(words) if wanted is None else list(wanted)
+    wanted = _outputs(words, program) if wanted is None else list(wanted)
     rows = [(_bytes(name), _bytes(text)) for name, text in files.items()]
     parts = _array(_Slice, [(_bytes(it),) for it in words]), _array(_Text, rows), _array(_Slice, [(_bytes(it),) for it in wanted])
     task = _Task(

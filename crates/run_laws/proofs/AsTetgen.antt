@@ -47,7 +47,7 @@ use Rattle.tetfit_run.specs.Hints.{moved_text}
 use Rattle.tetfit_run.specs.Outputs.{fit_limits, outputs_at}
 use Rattle.tetfit_run.specs.Run.{options_from, IsFinalMesh, IsMeshOfModel, IsTriedOf}
 use Rattle.tetfit_run.specs.Trying.{at_decimals}
-use Rattle.tetfit_run.specs.Words.{among_all, asks_elsewhere, fit_fault, fit_options, plain_fault, plain_options, plain_words}
+use Rattle.tetfit_run.specs.Words.{among_all, asks_elsewhere, fit_fault, fit_name, fit_options, grammar_words, plain_fault, plain_options}
 use Rattle.run_laws.specs.AsTetgen.{with_halvings, FitAsTetgenLaw, IsAskedAlike}
 use Rattle.run_laws.proofs.OneRun.{one_run}
 use Rattle.run_laws.proofs.SameInputs.{and_then_give, fetch_give, gives_give, input_give, some_same, text_value, whole_give, GiveSame}
@@ -86,8 +86,8 @@ none_of (Some x) e = absurd (true≢false e)
 
 no_sample : (words : List (List ℕ)) → fit_fault words ≡ None → (fit_options words).sample ≡ None
 no_sample words e =
-    let plain : plain_fault (plain_words words) ≡ None = mapped_none (among_all words) (plain_fault (plain_words words)) (first_none _ _ (second_none _ _ e)) in
-    let options = plain_options (plain_words words) in
+    let plain : plain_fault (grammar_words words) ≡ None = mapped_none (among_all words) (plain_fault (grammar_words words)) (first_none _ _ (second_none _ _ e)) in
+    let options = plain_options (grammar_words words) in
     let elsewhere : asks_elsewhere options ≡ false = unless_none (asks_elsewhere options) _ (second_none _ _ plain) in
     none_of options.sample (second_false (is_some options.decimals) (is_some options.sample) (second_false (options.weighted || options.check) (is_some options.decimals || is_some options.sample) elsewhere))
 
@@ -112,13 +112,17 @@ text_wider : (bytes : List ℕ) (text : Plc) (is_binary : Bool) → is_binary �
 text_wider bytes text true e h = absurd (true≢false e)
 text_wider bytes text false e h = stl_wider (line_count_of bytes) (content_lines bytes) text h
 
+-- the name of a surface has its extension in small letters
+abbrev IsSmall : List ℕ → Options → Type 0
+IsSmall name options = (form : Extension) → named_surface options ≡ Some form → name ≡ file_name options.base form
+
 -- what is read of an input behind the complex of a file: its points
 abbrev BehindFile : Limits → FolderSeen → List ℕ → ComplexFile → Result Input Status → Type 0
 BehindFile limits folder base file = AndThen (NodesAnswer limits folder base file.text.nodes) (BoundedAnswer file)
 
 module _ (told : Files) (folder : FolderSeen) (e : folder.files_before ≡ Some told) where
   surface_give_by : (base : List ℕ) (form : Extension) → ((bytes : List ℕ) (text : Plc) → FetchAnswer tetgen_limits folder (file_name base form) (Ok bytes) → plc_text_of form bytes ≡ Ok text → surface_text_of form bytes ≡ Ok text)
-      → GiveSame (SurfaceAnswer fit_limits folder base form) (FormAnswer tetgen_limits folder base form)
+      → GiveSame (SurfaceAnswer fit_limits folder (file_name base form) form) (FormAnswer tetgen_limits folder base form)
   surface_give_by base form wider =
       let name = file_name base form in
       and_then_give (FetchAnswer fit_limits folder name) (FetchAnswer tetgen_limits folder name) (λ bytes. AndThen (TextAnswer name (surface_text_of form bytes)) (λ text. Gives (complex_file name text)))
@@ -126,12 +130,12 @@ module _ (told : Files) (folder : FolderSeen) (e : folder.files_before ≡ Some 
       (λ bytes held. and_then_give (TextAnswer name (surface_text_of form bytes)) (TextAnswer name (plc_text_of form bytes)) (λ text. Gives (complex_file name text)) (λ text. Gives (complex_file name text))
       (λ a b h k. text_value a b (sym h ∙ wider bytes b held k)) (λ text read. gives_give (complex_file name text)))
 
-  surface_give : (base : List ℕ) (form : Extension) → (form ≡ Off) ⊎ (form ≡ Stl) → (form ≡ Stl → IsText folder base) → GiveSame (SurfaceAnswer fit_limits folder base form) (FormAnswer tetgen_limits folder base form)
+  surface_give : (base : List ℕ) (form : Extension) → (form ≡ Off) ⊎ (form ≡ Stl) → (form ≡ Stl → IsText folder base) → GiveSame (SurfaceAnswer fit_limits folder (file_name base form) form) (FormAnswer tetgen_limits folder base form)
   surface_give base form (inl off) text =
-      subst (λ x. GiveSame (SurfaceAnswer fit_limits folder base x) (FormAnswer tetgen_limits folder base x)) (sym off)
+      subst (λ x. GiveSame (SurfaceAnswer fit_limits folder (file_name base x) x) (FormAnswer tetgen_limits folder base x)) (sym off)
       (surface_give_by base Off (λ bytes t held h. off_wider (line_count_of bytes) (content_lines bytes) t h))
   surface_give base form (inr stl) text =
-      subst (λ x. GiveSame (SurfaceAnswer fit_limits folder base x) (FormAnswer tetgen_limits folder base x)) (sym stl)
+      subst (λ x. GiveSame (SurfaceAnswer fit_limits folder (file_name base x) x) (FormAnswer tetgen_limits folder base x)) (sym stl)
       (surface_give_by base Stl (λ bytes t held h. text_wider bytes t (is_binary_stl bytes) (text stl bytes held.0) h))
 
   -- a surface that both read
@@ -143,24 +147,27 @@ module _ (told : Files) (folder : FolderSeen) (e : folder.files_before ≡ Some 
       subst (λ x. AndThen (SourceAnswer tetgen_limits folder base (Some x) None) (BehindFile tetgen_limits folder base) (Ok input) → AndThen (FormAnswer tetgen_limits folder base x) (BehindFile tetgen_limits folder base) (Ok input)) (sym stl) (λ h. h)
 
   input_of_surface : (options : Options) (form : Extension) → options.sample ≡ None → (options.extension ≡ Some Stl → IsText folder options.base)
-      → (options.piecewise ≡ true) × (options.extension ≡ Some form) × ((form ≡ Off) ⊎ (form ≡ Stl)) → GiveSame (SurfaceInputAnswer fit_limits folder options.base form) (InputAnswer tetgen_limits folder options)
+      → (options.piecewise ≡ true) × (options.extension ≡ Some form) × ((form ≡ Off) ⊎ (form ≡ Stl)) → GiveSame (SurfaceInputAnswer fit_limits folder (file_name options.base form) options.base form) (InputAnswer tetgen_limits folder options)
   input_of_surface options form unsampled text known a b h k =
       let base = options.base in
       let whole = subst (λ (piecewise : Bool). InputOf tetgen_limits piecewise folder options (Ok b)) known.0 k in
       let kept = subst (λ (sample : Option ℕ). AndThen (SourceAnswer tetgen_limits folder base options.extension sample) (BehindFile tetgen_limits folder base) (Ok b)) unsampled whole in
       let named = subst (λ (extension : Option Extension). AndThen (SourceAnswer tetgen_limits folder base extension None) (BehindFile tetgen_limits folder base) (Ok b)) known.1 kept in
-      and_then_give (SurfaceAnswer fit_limits folder base form) (FormAnswer tetgen_limits folder base form) (BehindFile fit_limits folder base) (BehindFile tetgen_limits folder base)
+      and_then_give (SurfaceAnswer fit_limits folder (file_name base form) form) (FormAnswer tetgen_limits folder base form) (BehindFile fit_limits folder base) (BehindFile tetgen_limits folder base)
       (surface_give base form known.2 (λ stl. text (known.1 ∙ ap (λ (x : Extension). Some x) stl))) (λ file read. whole_give fit_limits tetgen_limits told folder folder e e base file) a b h
       (source_of base form b known.2 named)
 
-  read_by : (options : Options) → options.sample ≡ None → (options.extension ≡ Some Stl → IsText folder options.base) → (named : Option Extension) → named_surface options ≡ named
-      → GiveSame (ModelBy named fit_limits folder options) (InputAnswer tetgen_limits folder options)
-  read_by options unsampled text None is = input_give fit_limits tetgen_limits told folder folder e e options
-  read_by options unsampled text (Some form) is = input_of_surface options form unsampled text (surface_of options.piecewise options.extension form is)
+  read_by : (name : List ℕ) (options : Options) → options.sample ≡ None → (options.extension ≡ Some Stl → IsText folder options.base) → IsSmall name options → (named : Option Extension)
+      → named_surface options ≡ named → GiveSame (ModelBy named fit_limits folder name options) (InputAnswer tetgen_limits folder options)
+  read_by name options unsampled text small None is = input_give fit_limits tetgen_limits told folder folder e e options
+  read_by name options unsampled text small (Some form) is =
+      subst (λ (n : List ℕ). GiveSame (SurfaceInputAnswer fit_limits folder n options.base form) (InputAnswer tetgen_limits folder options)) (sym (small form is))
+      (input_of_surface options form unsampled text (surface_of options.piecewise options.extension form is))
 
   -- what `tetfit` and `tetgen` read of one model
-  read_give : (options : Options) → options.sample ≡ None → (options.extension ≡ Some Stl → IsText folder options.base) → GiveSame (ReadAnswer fit_limits folder options) (InputAnswer tetgen_limits folder options)
-  read_give options unsampled text = read_by options unsampled text (named_surface options) refl
+  read_give : (name : List ℕ) (options : Options) → options.sample ≡ None → (options.extension ≡ Some Stl → IsText folder options.base) → IsSmall name options
+      → GiveSame (ReadAnswer fit_limits folder name options) (InputAnswer tetgen_limits folder options)
+  read_give name options unsampled text small = read_by name options unsampled text small (named_surface options) refl
 
 -- nothing is moved where there is no origin
 unmoved : (input : Input) → origin_in input ≡ None → moved_model input ≡ input
@@ -171,7 +178,7 @@ unmeasured options input e = ap (λ (o : Option WholePoint). tried (record optio
 
 -- the model as it is tried is the one that is read
 tried_read : (words : List (List ℕ)) (folder : FolderSeen) (options : Options) (input at : Input) → options.origin ≡ None → IsTriedOf options words folder input at
-    → (read : Input) × ReadAnswer fit_limits folder (fit_options words) (Ok read) × (at ≡ read)
+    → (read : Input) × ReadAnswer fit_limits folder (fit_name words) (fit_options words) (Ok read) × (at ≡ read)
 tried_read words folder options input at e ((read, named, moved), origin, is) =
     let still : origin_in read ≡ None = sym (ap origin_in moved) ∙ sym origin ∙ e in
     (read, named, is ∙ unmeasured options input e ∙ moved ∙ unmoved read still)
@@ -297,7 +304,7 @@ module _ (words of_tetgen : List (List ℕ)) (told : Files) (folder : FolderSeen
       let halved = input_halved (fit_options words).halvings (options_of of_tetgen) tetgen_limits folder alike.input alike.read in
       let asked = subst (λ (o : Options). InputAnswer tetgen_limits folder o (Ok alike.input)) (sym alike.options) halved in
       let plain : InputAnswer tetgen_limits folder (fit_options words) (Ok alike.input) = input_plain (fit_options words).piecewise tetgen_limits folder words run.decimals alike.input asked in
-      own.2 ∙ read_give told folder files (fit_options words) (no_sample words run.mesh.understood) (λ stl bytes held. alike.text bytes stl held) own.0 alike.input own.1 plain
+      own.2 ∙ read_give told folder files (fit_name words) (fit_options words) (no_sample words run.mesh.understood) (λ stl bytes held. alike.text bytes stl held) alike.named own.0 alike.input own.1 plain
 
   same_bound : alike.bound ≡ run.mesh.bound
   same_bound =

@@ -3,7 +3,6 @@ use Rattle.std.proofs.Common.{◌≡◌, ◌⊎◌, inl, inr, ℕ, ◌+◌, ◌<
 use Rattle.std.specs.Prelude.{◌≢◌}
 use Rattle.std.proofs.lemmas.Bool.{cases_order, true≢false}
 use Rattle.std.proofs.lemmas.List.{length-map}
-use Rattle.command_words.specs.Names.{file_name}
 use Rattle.command_words.specs.declared.options.Extension.{Extension}
 use Rattle.command_words.specs.declared.options.Options.{Options}
 use Rattle.grid_coords.specs.declared.origin.WholePoint.{WholePoint}
@@ -28,7 +27,7 @@ use Rattle.tetfit_run.specs.Hints.{moved_text}
 use Rattle.tetfit_run.specs.Outputs.{fit_limits, outputs_at}
 use Rattle.tetfit_run.specs.Run.{options_from, IsFinalMesh, IsMeshOfModel}
 use Rattle.tetfit_run.specs.Trying.{at_decimals, is_of_grid, IsFitted}
-use Rattle.tetfit_run.specs.Words.{fit_goal, fit_options, plain_words}
+use Rattle.tetfit_run.specs.Words.{fit_goal, fit_name, fit_options, grammar_words}
 use Rattle.run_laws.specs.OneFit.{OneFitLaw}
 use Rattle.run_laws.proofs.OneOutputs.{outputs_once}
 use Rattle.run_laws.proofs.ReadInputs.{budget_small}
@@ -37,17 +36,17 @@ use Rattle.run_laws.proofs.SameInputs.{and_then_give, checked_behind, checked_of
 -- ---- the model
 
 module _ (told : Files) (one two : FolderSeen) (e : one.files_before ≡ Some told) (f : two.files_before ≡ Some told) where
-  read_by : (named : Option Extension) (options : Options) → GiveSame (ModelBy named fit_limits one options) (ModelBy named fit_limits two options)
-  read_by None options = input_give fit_limits fit_limits told one two e f options
-  read_by (Some form) options =
+  read_by : (named : Option Extension) (name : List ℕ) (options : Options) → GiveSame (ModelBy named fit_limits one name options) (ModelBy named fit_limits two name options)
+  read_by None name options = input_give fit_limits fit_limits told one two e f options
+  read_by (Some form) name options =
       let base = options.base in
-      and_then_give (SurfaceAnswer fit_limits one base form) (SurfaceAnswer fit_limits two base form) (λ (file : ComplexFile). AndThen (NodesAnswer fit_limits one base file.text.nodes) (BoundedAnswer file))
-      (λ (file : ComplexFile). AndThen (NodesAnswer fit_limits two base file.text.nodes) (BoundedAnswer file)) (named_file_give fit_limits fit_limits told one two e f (file_name base form) (surface_text_of form))
-      (λ file named. whole_give fit_limits fit_limits told one two e f base file)
+      and_then_give (SurfaceAnswer fit_limits one name form) (SurfaceAnswer fit_limits two name form) (λ (file : ComplexFile). AndThen (NodesAnswer fit_limits one base file.text.nodes) (BoundedAnswer file))
+      (λ (file : ComplexFile). AndThen (NodesAnswer fit_limits two base file.text.nodes) (BoundedAnswer file)) (named_file_give fit_limits fit_limits told one two e f name (surface_text_of form))
+      (λ file read. whole_give fit_limits fit_limits told one two e f base file)
 
-  model_give : (options : Options) → GiveSame (ModelAnswer fit_limits one options) (ModelAnswer fit_limits two options)
-  model_give options =
-      and_then_give (ReadAnswer fit_limits one options) (ReadAnswer fit_limits two options) MovedAnswer MovedAnswer (read_by (named_surface options) options) (λ input read a b h k. h ∙ sym k)
+  model_give : (name : List ℕ) (options : Options) → GiveSame (ModelAnswer fit_limits one name options) (ModelAnswer fit_limits two name options)
+  model_give name options =
+      and_then_give (ReadAnswer fit_limits one name options) (ReadAnswer fit_limits two name options) MovedAnswer MovedAnswer (read_by (named_surface options) name options) (λ input read a b h k. h ∙ sym k)
 
 -- ---- its corners
 
@@ -55,18 +54,18 @@ module _ (told : Files) (one two : FolderSeen) (e : one.files_before ≡ Some to
 abbrev IsChecked : Input → Type 0
 IsChecked input = corners_check input.nodes.first (length input.nodes.decimals) input.complex ≡ Ok tt
 
-read_checked : (named : Option Extension) (folder : FolderSeen) (options : Options) (input : Input) → options.piecewise ≡ true → ModelBy named fit_limits folder options (Ok input) → IsChecked input
-read_checked None folder options input e h = checked_of fit_limits folder options input h e
-read_checked (Some form) folder options input e (file, source, behind) = checked_behind fit_limits folder options.base file input behind
+read_checked : (named : Option Extension) (folder : FolderSeen) (name : List ℕ) (options : Options) (input : Input) → options.piecewise ≡ true → ModelBy named fit_limits folder name options (Ok input) → IsChecked input
+read_checked None folder name options input e h = checked_of fit_limits folder options input h e
+read_checked (Some form) folder name options input e (file, source, behind) = checked_behind fit_limits folder options.base file input behind
 
 -- measuring moves no corner
 still_corners : (origin : Option WholePoint) (most first count : ℕ) (complex : Plc) → corners_check first count (complex_from origin most complex) ≡ corners_check first count complex
 still_corners None most first count complex = refl
 still_corners (Some w) most first count complex = same_corners w (most + 6) complex first count
 
-model_checked : (folder : FolderSeen) (options : Options) (input : Input) → options.piecewise ≡ true → ModelAnswer fit_limits folder options (Ok input) → IsChecked input
-model_checked folder options input e (read, named, moved) =
-    subst IsChecked (sym moved) (still_corners (origin_in read) (most_tried read) read.nodes.first (length read.nodes.decimals) read.complex ∙ read_checked (named_surface options) folder options read e named)
+model_checked : (folder : FolderSeen) (name : List ℕ) (options : Options) (input : Input) → options.piecewise ≡ true → ModelAnswer fit_limits folder name options (Ok input) → IsChecked input
+model_checked folder name options input e (read, named, moved) =
+    subst IsChecked (sym moved) (still_corners (origin_in read) (most_tried read) read.nodes.first (length read.nodes.decimals) read.complex ∙ read_checked (named_surface options) folder name options read e named)
 
 -- as many points are tried
 as_many_tried : (origin : Option WholePoint) (decimals : Option ℕ) (points : List DecimalPoint) → length (points_by origin decimals points) ≡ length points
@@ -108,7 +107,7 @@ decimals_once options input m n a b h k = by (cases_order m n)
 -- a run without bounds, by the model that it reads
 record IsPlainFit (words : List (List ℕ)) (folder : FolderSeen) (outputs : Outputs) : Type 0 where
   input : Input
-  read : ModelAnswer fit_limits folder (fit_options words) (Ok input)
+  read : ModelAnswer fit_limits folder (fit_name words) (fit_options words) (Ok input)
   decimals : ℕ
   made : Outputs
   fitted : IsFitted fit_limits (options_from (origin_in input) words) input decimals (Ok made)
@@ -133,12 +132,12 @@ one_fit words told one two p q plain e f h k =
     let a = plain_fit words one p plain h in
     let b = plain_fit words two q plain k in
     let options = options_from (origin_in a.input) words in
-    let inputs = model_give told one two e f (fit_options words) a.input b.input a.read b.read in
+    let inputs = model_give told one two e f (fit_name words) (fit_options words) a.input b.input a.read b.read in
     let moved = subst (λ (i : Input). IsFitted fit_limits (options_from (origin_in i) words) i b.decimals (Ok b.made)) (sym inputs) b.fitted in
     let decimals = decimals_once options a.input a.decimals b.decimals a.made b.made a.fitted moved in
     let again = subst (λ (n : ℕ). IsFitted fit_limits options a.input n (Ok b.made)) (sym decimals) moved in
     let at = at_decimals a.decimals options in
-    let made = outputs_once fit_limits at (tried at a.input) (omega arith) (budget_small (plain_words words)) (λ piecewise. tried_checked at a.input (model_checked one (fit_options words) a.input piecewise a.read)) a.made b.made
+    let made = outputs_once fit_limits at (tried at a.input) (omega arith) (budget_small (grammar_words words)) (λ piecewise. tried_checked at a.input (model_checked one (fit_name words) (fit_options words) a.input piecewise a.read)) a.made b.made
     a.fitted.answer again.answer in
     a.is ∙ ap (λ (n : ℕ). outputs_at n (moved_text n a.input.nodes.decimals) a.made) decimals ∙ ap (λ (i : Input). outputs_at b.decimals (moved_text b.decimals i.nodes.decimals) a.made) inputs
     ∙ ap (λ (o : Outputs). outputs_at b.decimals (moved_text b.decimals b.input.nodes.decimals) o) made ∙ sym b.is

@@ -3,6 +3,7 @@ use Rattle.std.specs.Prelude.{◌≡◌, ℕ, false, List, None, Some, Ok}
 use Rattle.command_words.specs.Grammar.{words_fault}
 use Rattle.command_words.specs.Meaning.{options_of}
 use Rattle.command_words.specs.Names.{file_name}
+use Rattle.command_words.specs.declared.options.Extension.{Extension}
 use Rattle.command_words.specs.declared.options.Extension.TheVariants.{Stl}
 use Rattle.command_words.specs.declared.options.Options.{Options}
 use Rattle.grid_coords.specs.declared.points.DecimalPoint.{DecimalPoint}
@@ -16,10 +17,11 @@ use Rattle.run_steps.specs.declared.input.Input.{Input}
 use Rattle.run_steps.specs.declared.mesh.Bound.{Bound}
 use Rattle.run_steps.specs.declared.outputs.Outputs.{Outputs}
 use Rattle.tetfit_run.specs.Hints.{moved_text}
+use Rattle.tetfit_run.specs.Models.{named_surface}
 use Rattle.tetfit_run.specs.Outputs.{outputs_at}
 use Rattle.tetfit_run.specs.Run.{IsMeshOfModel, options_from}
 use Rattle.tetfit_run.specs.Trying.{at_decimals}
-use Rattle.tetfit_run.specs.Words.{fit_goal, fit_options}
+use Rattle.tetfit_run.specs.Words.{fit_goal, fit_name, fit_options}
 
 -- the options, with another bound on the halvings of the grid
 abbrev pub with_halvings : ℕ → Options → Options
@@ -27,13 +29,15 @@ with_halvings halvings options = record options { halvings = halvings }
 
 -- The words of `tetgen` ask for what the words of `tetfit` ask for, with the decimals of a run of it, and `tetgen` reads the model within
 -- its limits: no bounds on tetrahedra are given, and the coordinates are measured from no origin; but for the bound on halvings the
--- options are the same; a `.stl` file is a text; and the points are on a grid that is halved as often as that of the run
+-- options are the same; the extension of a surface is in small letters; a `.stl` file is a text; and the points are on a grid that is
+-- halved as often as that of the run
 pub record IsAskedAlike (words of_tetgen : List (List ℕ)) (folder : FolderSeen) (outputs : Outputs)
     (run : IsMeshOfModel words folder outputs) : Type 0 where
   pub unbounded : fit_goal words ≡ None
   pub unmeasured : run.origin ≡ None
   pub understood : words_fault of_tetgen ≡ None
   pub options : at_decimals run.decimals (options_from None words) ≡ with_halvings (fit_options words).halvings (options_of of_tetgen)
+  pub named : (form : Extension) → named_surface (fit_options words) ≡ Some form → fit_name words ≡ file_name (fit_options words).base form
   pub text : (bytes : List ℕ) → (fit_options words).extension ≡ Some Stl
       → Holds folder.files_before (file_name (fit_options words).base Stl) bytes → is_binary_stl bytes ≡ false
   pub input : Input

@@ -2,7 +2,6 @@
 use Rattle.std.proofs.Common.{◌≡◌, ◌<◌, ◌⊎◌, inl, inr, ℕ, true, List, Option, Some, None, Result, Ok, Err, refl, sym, subst, ap, ◌∙◌, arith}
 use Rattle.std.specs.Prelude.{◌≢◌}
 use Rattle.box_tree.proofs.Lists.{less_or_more}
-use Rattle.command_words.specs.Names.{file_name}
 use Rattle.command_words.specs.declared.options.Extension.{Extension}
 use Rattle.command_words.specs.declared.options.Options.{Options}
 use Rattle.tetfit_run.specs.Measured.{MovedAnswer, tried}
@@ -48,18 +47,17 @@ words_once words (Err s) (Err t) n m h k =
 
 -- ---- the model
 
-surface_once : (told : Files) (seen : FolderSeen) (base : List ℕ) (form : Extension) → IsTold told seen → IsOnce (SurfaceAnswer fit_limits seen base form)
-surface_once told seen base form h =
-    let name = file_name base form in
+surface_once : (told : Files) (seen : FolderSeen) (name : List ℕ) (form : Extension) → IsTold told seen → IsOnce (SurfaceAnswer fit_limits seen name form)
+surface_once told seen name form h =
     and_then_once (FetchAnswer fit_limits seen name) (λ bytes. AndThen (TextAnswer name (surface_text_of form bytes)) (λ text. Gives (complex_file name text)))
     (fetch_once fit_limits told seen name h.files h.no_fault)
     (λ bytes. and_then_once (TextAnswer name (surface_text_of form bytes)) (λ text. Gives (complex_file name text)) (text_once name (surface_text_of form bytes)) (λ text. gives_once (complex_file name text)))
 
-model_by_once : (named : Option Extension) (told : Files) (seen : FolderSeen) (options : Options) → IsTold told seen → IsOnce (ModelBy named fit_limits seen options)
-model_by_once None told seen options h = input_once fit_limits told seen options h
-model_by_once (Some form) told seen options h =
+model_by_once : (named : Option Extension) (told : Files) (seen : FolderSeen) (name : List ℕ) (options : Options) → IsTold told seen → IsOnce (ModelBy named fit_limits seen name options)
+model_by_once None told seen name options h = input_once fit_limits told seen options h
+model_by_once (Some form) told seen name options h =
     let base = options.base in
-    and_then_once (SurfaceAnswer fit_limits seen base form) (λ file. AndThen (NodesAnswer fit_limits seen base file.text.nodes) (BoundedAnswer file)) (surface_once told seen base form h)
+    and_then_once (SurfaceAnswer fit_limits seen name form) (λ file. AndThen (NodesAnswer fit_limits seen base file.text.nodes) (BoundedAnswer file)) (surface_once told seen name form h)
     (λ file. and_then_once (NodesAnswer fit_limits seen base file.text.nodes) (BoundedAnswer file) (nodes_once fit_limits told seen base file.text.nodes h) (bounded_once file))
 
 moved_once : (input : Input) → IsOnce (MovedAnswer input)
@@ -67,9 +65,9 @@ moved_once input (Ok a) (Ok b) n m h k = ap (λ x. Ok x) (h ∙ sym k)
 moved_once input (Err s) r n m h k = absurd (n h)
 moved_once input (Ok a) (Err t) n m h k = absurd (m k)
 
-model_once : (told : Files) (seen : FolderSeen) (options : Options) → IsTold told seen → IsOnce (ModelAnswer fit_limits seen options)
-model_once told seen options h =
-    and_then_once (ReadAnswer fit_limits seen options) MovedAnswer (model_by_once (named_surface options) told seen options h) moved_once
+model_once : (told : Files) (seen : FolderSeen) (name : List ℕ) (options : Options) → IsTold told seen → IsOnce (ModelAnswer fit_limits seen name options)
+model_once told seen name options h =
+    and_then_once (ReadAnswer fit_limits seen name options) MovedAnswer (model_by_once (named_surface options) told seen name options h) moved_once
 
 -- ---- the decimals
 
@@ -141,8 +139,8 @@ made_same Page told words seen h = says_same _
 made_same Version told words seen h = says_same _
 made_same Check told words seen h = check_same read_status refl told (others words) seen h
 made_same Mesh told words seen h =
-    and_then_same_by read_status (FitWordsAnswer (others words)) (λ wanted. AndThen (ModelAnswer fit_limits seen wanted.options) (λ input. IsFittedTo (wanted_from input wanted) input)) (words_once (others words))
-    (λ wanted. and_then_same_by read_status (ModelAnswer fit_limits seen wanted.options) (λ input. IsFittedTo (wanted_from input wanted) input) (model_once told seen wanted.options h) (λ input. fitted_same (wanted_from input wanted) input))
+    and_then_same_by read_status (FitWordsAnswer (others words)) (λ wanted. AndThen (ModelAnswer fit_limits seen wanted.name wanted.options) (λ input. IsFittedTo (wanted_from input wanted) input)) (words_once (others words))
+    (λ wanted. and_then_same_by read_status (ModelAnswer fit_limits seen wanted.name wanted.options) (λ input. IsFittedTo (wanted_from input wanted) input) (model_once told seen wanted.name wanted.options h) (λ input. fitted_same (wanted_from input wanted) input))
 
 pub answer_complete : (words : List (List ℕ)) (folder : FolderSeen) (out : SinkSeen) (s : Status) → IsFitAnswer words folder out s → IsFitComplete words folder out s
 answer_complete words folder out s h told e f n other m k =

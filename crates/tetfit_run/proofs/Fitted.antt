@@ -16,7 +16,7 @@ use Rattle.node_files.specs.declared.limits.Limits.{Limits}
 use Rattle.refining.specs.declared.goal.Goal.{Goal}
 use Rattle.tetfit_run.proofs.CheckedRuns.{check_refuses, check_wider}
 use Rattle.tetfit_run.proofs.RefinedRuns.{refined_mesh_by}
-use Rattle.tetfit_run.specs.Words.{fit_fault, fit_goal, fit_options, others, request_of}
+use Rattle.tetfit_run.specs.Words.{fit_fault, fit_goal, fit_name, fit_options, others, request_of}
 use Rattle.tetfit_run.specs.declared.wanted.Wanted.{Wanted}
 use Rattle.tetfit_run.specs.declared.request.Request.{Request}
 use Rattle.tetfit_run.specs.declared.request.Request.TheVariants.{Page, Version, Check, Mesh}
@@ -58,10 +58,10 @@ usage_refuses words (Usage word place) h = tt
 usage_refuses words NoMemory h = tt
 usage_refuses words s h = absurd h
 
-model_refuses : (folder : FolderSeen) (options : Options) (s : Status) → ModelAnswer fit_limits folder options (Err s) → IsRefusal s
+model_refuses : (folder : FolderSeen) (name : List ℕ) (options : Options) (s : Status) → ModelAnswer fit_limits folder name options (Err s) → IsRefusal s
 model_refuses = model_has IsRefusal (λ name. tt) (λ name. tt) (λ name fault. tt) (λ name most. tt) tt fit_limits
 
-model_silent : (folder : FolderSeen) (options : Options) (s : Status) → ModelAnswer fit_limits folder options (Err s) → IsSilent s
+model_silent : (folder : FolderSeen) (name : List ℕ) (options : Options) (s : Status) → ModelAnswer fit_limits folder name options (Err s) → IsSilent s
 model_silent = model_has IsSilent (λ name. refl) (λ name. refl) (λ name fault. refl) (λ name most. refl) refl fit_limits
 
 fitted_refuses : (wanted : Wanted) (input : Input) (s : Status) → IsFittedTo wanted input (Err s) → IsRefusal s
@@ -71,7 +71,7 @@ fitted_refuses wanted input s h = step_refuses s (meshed_refuses fit_limits (at_
 outputs_refuse : (words : List (List ℕ)) (folder : FolderSeen) (s : Status) → OutputsOfModel words folder (Err s) → IsRefusal s
 outputs_refuse words folder =
     and_then_refuses IsRefusal (FitWordsAnswer words) (λ wanted. OutputsOfWanted wanted folder) (usage_refuses words)
-    (λ wanted. and_then_refuses IsRefusal (ModelAnswer fit_limits folder wanted.options) (λ input. IsFittedTo (wanted_from input wanted) input) (model_refuses folder wanted.options)
+    (λ wanted. and_then_refuses IsRefusal (ModelAnswer fit_limits folder wanted.name wanted.options) (λ input. IsFittedTo (wanted_from input wanted) input) (model_refuses folder wanted.name wanted.options)
     (λ input. fitted_refuses (wanted_from input wanted) input))
 
 made_refuses : (request : Request) (words : List (List ℕ)) (folder : FolderSeen) (s : Status) → MadeBy request words folder (Err s) → IsRefusal s
@@ -86,19 +86,19 @@ fit_refuses words folder = made_refuses (request_of words) words folder
 -- ---- numbers of points
 
 -- a status whose message prints no points has every numbering
-numbers_of : (options : Options) (folder : FolderSeen) (hint : List ℕ) → NumbersPoints (IsNumberingOf options folder hint)
-numbers_of options folder hint s by e = λ t. absurd (not_true (subst IsTrue e t))
+numbers_of : (name : List ℕ) (options : Options) (folder : FolderSeen) (hint : List ℕ) → NumbersPoints (IsNumberingOf name options folder hint)
+numbers_of name options folder hint s by e = λ t. absurd (not_true (subst IsTrue e t))
 
 pub numbers_points : (words : List (List ℕ)) (folder : FolderSeen) (hint : List ℕ) → NumbersPoints (IsFitNumbering words folder hint)
-numbers_points words = numbers_of (fit_options words)
+numbers_points words = numbers_of (fit_name words) (fit_options words)
 
-numbered : (folder : FolderSeen) (options : Options) (model : Model) (hint : List ℕ) (m : ℕ) (s : Status) (by : Option Numbering) → ModelAnswer fit_limits folder options (Ok model.input)
+numbered : (folder : FolderSeen) (name : List ℕ) (options : Options) (model : Model) (hint : List ℕ) (m : ℕ) (s : Status) (by : Option Numbering) → ModelAnswer fit_limits folder name options (Ok model.input)
     → IsFitted fit_limits (with_origin model.input options) model.input m (Err s) → IsNumbered fit_limits (at_decimals m (with_origin model.input options)) model.input s by
-    → IsHint fit_limits model.stated (at_decimals m (with_origin model.input options)) model.input by s hint → IsNumberingOf options folder hint s by
-numbered folder options model hint m s None r f n h =
+    → IsHint fit_limits model.stated (at_decimals m (with_origin model.input options)) model.input by s hint → IsNumberingOf name options folder hint s by
+numbered folder name options model hint m s None r f n h =
     let at = at_decimals m (with_origin model.input options) in
-    numbers_of options folder hint s None (bound_silent fit_limits at (tried at model.input) s n)
-numbered folder options model hint m s (Some by) r f n h =
+    numbers_of name options folder hint s None (bound_silent fit_limits at (tried at model.input) s n)
+numbered folder name options model hint m s (Some by) r f n h =
     λ t. (model.input, r, m, f, n.0, n.1, ap Some n.3, subst (λ q. IsHintBy fit_limits (at_decimals m (with_origin model.input options)) model.input q s hint) n.3 h)
 
 -- ---- a point off the grid, and points in one plane
@@ -111,32 +111,32 @@ HasNoLine Empty = ⊥
 HasNoLine status = Unit {0}
 
 -- no reading of a model is refused for one
-model_no_line : (folder : FolderSeen) (options : Options) (s : Status) → ModelAnswer fit_limits folder options (Err s) → HasNoLine s
+model_no_line : (folder : FolderSeen) (name : List ℕ) (options : Options) (s : Status) → ModelAnswer fit_limits folder name options (Err s) → HasNoLine s
 model_no_line = model_has HasNoLine (λ name. tt) (λ name. tt) (λ name fault. tt) (λ name most. tt) tt fit_limits
 
 -- of another status nothing is told
-no_line : (folder : FolderSeen) (options : Options) (hint : List ℕ) (s : Status) → HasNoLine s → TellsUnnamed options folder hint s
-no_line folder options hint (Limit (Grid line)) h = absurd h
-no_line folder options hint Flat h = absurd h
-no_line folder options hint Empty h = absurd h
-no_line folder options hint s h = tt
+no_line : (folder : FolderSeen) (name : List ℕ) (options : Options) (hint : List ℕ) (s : Status) → HasNoLine s → TellsUnnamed name options folder hint s
+no_line folder name options hint (Limit (Grid line)) h = absurd h
+no_line folder name options hint Flat h = absurd h
+no_line folder name options hint Empty h = absurd h
+no_line folder name options hint s h = tt
 
-unnamed : (folder : FolderSeen) (options : Options) (model : Model) (hint : List ℕ) (m : ℕ) (s : Status) (by : Option Numbering) → ModelAnswer fit_limits folder options (Ok model.input) → IsStatedBy folder options model.stated
+unnamed : (folder : FolderSeen) (name : List ℕ) (options : Options) (model : Model) (hint : List ℕ) (m : ℕ) (s : Status) (by : Option Numbering) → ModelAnswer fit_limits folder name options (Ok model.input) → IsStatedBy folder name options model.stated
     → IsFitted fit_limits (with_origin model.input options) model.input m (Err s) → IsNumbered fit_limits (at_decimals m (with_origin model.input options)) model.input s by
-    → IsHint fit_limits model.stated (at_decimals m (with_origin model.input options)) model.input by s hint → TellsUnnamed options folder hint s
-unnamed folder options model hint m (Limit (Grid line)) None r w f n h = (model.input, r, model.stated, w, h)
-unnamed folder options model hint m (Limit (Grid line)) (Some by) r w f n h = absurd (made_on_grid (at_decimals m (with_origin model.input options)) n.0 (Limit (Grid line)) n.2)
-unnamed folder options model hint m Flat None r w f n h = absurd n
-unnamed folder options model hint m Flat (Some by) r w f n h = (model.input, r, m, f, h)
-unnamed folder options model hint m Empty by r w f n h = absurd (meshed_refuses fit_limits (at_decimals m (with_origin model.input options)) (tried (at_decimals m (with_origin model.input options)) model.input) Empty f.answer)
-unnamed folder options model hint m s by r w f n h = tt
+    → IsHint fit_limits model.stated (at_decimals m (with_origin model.input options)) model.input by s hint → TellsUnnamed name options folder hint s
+unnamed folder name options model hint m (Limit (Grid line)) None r w f n h = (model.input, r, model.stated, w, h)
+unnamed folder name options model hint m (Limit (Grid line)) (Some by) r w f n h = absurd (made_on_grid (at_decimals m (with_origin model.input options)) n.0 (Limit (Grid line)) n.2)
+unnamed folder name options model hint m Flat None r w f n h = absurd n
+unnamed folder name options model hint m Flat (Some by) r w f n h = (model.input, r, m, f, h)
+unnamed folder name options model hint m Empty by r w f n h = absurd (meshed_refuses fit_limits (at_decimals m (with_origin model.input options)) (tried (at_decimals m (with_origin model.input options)) model.input) Empty f.answer)
+unnamed folder name options model hint m s by r w f n h = tt
 
 -- behind the message of a check no line follows
-pub no_behind : (request : Request) (folder : FolderSeen) (options : Options) (hint : List ℕ) (s : Status) → HasNoLine s → TellsBehind request options folder hint s
-no_behind Page folder options hint s h = no_line folder options hint s h
-no_behind Version folder options hint s h = no_line folder options hint s h
-no_behind Check folder options hint s h = tt
-no_behind Mesh folder options hint s h = no_line folder options hint s h
+pub no_behind : (request : Request) (folder : FolderSeen) (name : List ℕ) (options : Options) (hint : List ℕ) (s : Status) → HasNoLine s → TellsBehind request name options folder hint s
+no_behind Page folder name options hint s h = no_line folder name options hint s h
+no_behind Version folder name options hint s h = no_line folder name options hint s h
+no_behind Check folder name options hint s h = tt
+no_behind Mesh folder name options hint s h = no_line folder name options hint s h
 
 -- the refusal of what is fitted, with what more is told of it
 unfitted_by : (options : Options) (model : Model) (m : ℕ) (s : Status) (by : Option Numbering) (hint : List ℕ) → IsFitted fit_limits options model.input m (Err s) → IsNumbered fit_limits (at_decimals m options) model.input s by
@@ -162,20 +162,22 @@ emptied options model limits m made hint test Unsummed l f e t h = absurd h
 emptied options model limits m made hint test Wanting l f e t h = tt
 
 -- where there is no model
-pub model_stops : (folder : FolderSeen) (wanted : Wanted) (hint : List ℕ) (s : Status) → ModelAnswer fit_limits folder wanted.options (Err s)
-    → StopsSo (OutputsOfWanted wanted folder) (IsKnownOf wanted.options folder hint) (Refused s None)
+pub model_stops : (folder : FolderSeen) (wanted : Wanted) (hint : List ℕ) (s : Status) → ModelAnswer fit_limits folder wanted.name wanted.options (Err s)
+    → StopsSo (OutputsOfWanted wanted folder) (IsKnownOf wanted.name wanted.options folder hint) (Refused s None)
 model_stops folder wanted hint s r =
+    let name = wanted.name in
     let options = wanted.options in
-    (inl r, (numbers_of options folder hint s None (model_silent folder options s r), no_line folder options hint s (model_no_line folder options s r)))
+    (inl r, (numbers_of name options folder hint s None (model_silent folder name options s r), no_line folder name options hint s (model_no_line folder name options s r)))
 
 -- where it has no mesh
-pub unfitted_stops : (folder : FolderSeen) (wanted : Wanted) (model : Model) (hint : List ℕ) (stop : Stop) → ModelAnswer fit_limits folder wanted.options (Ok model.input) → IsStatedBy folder wanted.options model.stated
-    → IsUnfitted (with_origin model.input wanted.options) model hint stop → StopsSo (OutputsOfWanted wanted folder) (IsKnownOf wanted.options folder hint) stop
+pub unfitted_stops : (folder : FolderSeen) (wanted : Wanted) (model : Model) (hint : List ℕ) (stop : Stop) → ModelAnswer fit_limits folder wanted.name wanted.options (Ok model.input) → IsStatedBy folder wanted.name wanted.options model.stated
+    → IsUnfitted (with_origin model.input wanted.options) model hint stop → StopsSo (OutputsOfWanted wanted folder) (IsKnownOf wanted.name wanted.options folder hint) stop
 unfitted_stops folder wanted model hint (Refused Empty by) r w h =
-    (inr (model.input, r, (h.0, h.1)), (numbers_of wanted.options folder hint Empty by refl, (model.input, r, h.0, h.1, h.2)))
+    (inr (model.input, r, (h.0, h.1)), (numbers_of wanted.name wanted.options folder hint Empty by refl, (model.input, r, h.0, h.1, h.2)))
 unfitted_stops folder wanted model hint (Refused s by) r w h =
+    let name = wanted.name in
     let options = wanted.options in
-    (inr (model.input, r, (h.0, h.1)), (numbered folder options model hint h.0 s by r h.1 h.2 h.3, unnamed folder options model hint h.0 s by r w h.1 h.2 h.3))
+    (inr (model.input, r, (h.0, h.1)), (numbered folder name options model hint h.0 s by r h.1 h.2 h.3, unnamed folder name options model hint h.0 s by r w h.1 h.2 h.3))
 unfitted_stops folder wanted model hint (Unwritten text) r w h = absurd h
 unfitted_stops folder wanted model hint Unsummed r w h = absurd h
 unfitted_stops folder wanted model hint Wanting r w h = tt
@@ -184,25 +186,25 @@ unfitted_stops folder wanted model hint Wanting r w h = tt
 pub check_known : (words : List (List ℕ)) (folder : FolderSeen) (hint : List ℕ) (stop : Stop) → request_of words ≡ Check
     → StopsSo (OutputsOfCheck (others words) folder) (λ status by. IsSilent status) stop → StopsSo (OutputsOfFit words folder) (IsKnown words folder hint) stop
 check_known words folder hint stop asked h =
-    subst (λ request. StopsSo (MadeBy request words folder) (IsKnownBy request (fit_options (others words)) folder hint) stop) (sym asked) (known stop h)
+    subst (λ request. StopsSo (MadeBy request words folder) (IsKnownBy request (fit_name (others words)) (fit_options (others words)) folder hint) stop) (sym asked) (known stop h)
   where
     known : (stop : Stop) → StopsSo (OutputsOfCheck (others words) folder) (λ status by. IsSilent status) stop
-        → StopsSo (MadeBy Check words folder) (IsKnownBy Check (fit_options (others words)) folder hint) stop
-    known (Refused s by) h = (h.0, (numbers_of (fit_options (others words)) folder hint s by h.1, tt))
+        → StopsSo (MadeBy Check words folder) (IsKnownBy Check (fit_name (others words)) (fit_options (others words)) folder hint) stop
+    known (Refused s by) h = (h.0, (numbers_of (fit_name (others words)) (fit_options (others words)) folder hint s by h.1, tt))
     known (Unwritten text) h = absurd h
     known Unsummed h = absurd h
     known Wanting h = tt
 
 -- where the words are not understood
 pub usage_stops : (words : List (List ℕ)) (folder : FolderSeen) (hint : List ℕ) (answer : Result Wanted WordsFault) (f : WordsFault) → answer ≡ Err f
-    → ((word place : ℕ) → answer ≡ Err (Misunderstood word place) → fit_fault words ≡ Some (word, place)) → StopsSo (OutputsOfModel words folder) (IsKnownOf (fit_options words) folder hint) (stop_of_words f)
+    → ((word place : ℕ) → answer ≡ Err (Misunderstood word place) → fit_fault words ≡ Some (word, place)) → StopsSo (OutputsOfModel words folder) (IsKnownOf (fit_name words) (fit_options words) folder hint) (stop_of_words f)
 usage_stops words folder hint answer (Misunderstood word place) e usage = (inl (usage word place e), (numbers_points words folder hint (Usage word place) None refl, tt))
 usage_stops words folder hint answer WordsWanting e usage = tt
 
 -- where they are
 pub wanted_stop : (words : List (List ℕ)) (folder : FolderSeen) (hint : List ℕ) (wanted : Wanted) (stop : Stop) → FitWordsAnswer words (Ok wanted)
-    → StopsSo (OutputsOfWanted wanted folder) (IsKnownOf wanted.options folder hint) stop → StopsSo (OutputsOfModel words folder) (IsKnownOf (fit_options words) folder hint) stop
-wanted_stop words folder hint wanted (Refused s by) w h = (inr (wanted, w, h.0), subst (λ (q : Wanted). IsKnownOf q.options folder hint s by) w.1 h.1)
+    → StopsSo (OutputsOfWanted wanted folder) (IsKnownOf wanted.name wanted.options folder hint) stop → StopsSo (OutputsOfModel words folder) (IsKnownOf (fit_name words) (fit_options words) folder hint) stop
+wanted_stop words folder hint wanted (Refused s by) w h = (inr (wanted, w, h.0), subst (λ (q : Wanted). IsKnownOf q.name q.options folder hint s by) w.1 h.1)
 wanted_stop words folder hint wanted (Unwritten text) w h = absurd h
 wanted_stop words folder hint wanted Unsummed w h = absurd h
 wanted_stop words folder hint wanted Wanting w h = tt
@@ -210,25 +212,25 @@ wanted_stop words folder hint wanted Wanting w h = tt
 -- ---- what is told
 
 -- what is known of the numbers
-pub ends_numbered : (Made : Result Outputs Status → Type 0) (request : Request) (options : Options) (folder : FolderSeen) (hint : List ℕ) (out : SinkSeen) (stop : Stop)
-    → EndsWith Made (IsKnownBy request options folder hint) folder out (Err stop) → EndsWith Made (IsNumberingOf options folder hint) folder out (Err stop)
-ends_numbered Made request options folder hint out (Refused s by) h = (h.0, h.1, h.2.0)
-ends_numbered Made request options folder hint out (Unwritten text) h = h
-ends_numbered Made request options folder hint out Unsummed h = h
-ends_numbered Made request options folder hint out Wanting h = h
+pub ends_numbered : (Made : Result Outputs Status → Type 0) (request : Request) (name : List ℕ) (options : Options) (folder : FolderSeen) (hint : List ℕ) (out : SinkSeen) (stop : Stop)
+    → EndsWith Made (IsKnownBy request name options folder hint) folder out (Err stop) → EndsWith Made (IsNumberingOf name options folder hint) folder out (Err stop)
+ends_numbered Made request name options folder hint out (Refused s by) h = (h.0, h.1, h.2.0)
+ends_numbered Made request name options folder hint out (Unwritten text) h = h
+ends_numbered Made request name options folder hint out Unsummed h = h
+ends_numbered Made request name options folder hint out Wanting h = h
 
-stop_behind : (Made : Result Outputs Status → Type 0) (request : Request) (options : Options) (folder : FolderSeen) (hint : List ℕ) (out : SinkSeen) (stop : Stop)
-    → EndsWith Made (IsKnownBy request options folder hint) folder out (Err stop) → TellsBehind request options folder hint (answer_of (Err stop))
-stop_behind Made request options folder hint out (Refused s by) h = h.2.1
-stop_behind Made request options folder hint out (Unwritten text) h = no_behind request folder options hint (WriteFault (Some text.name)) tt
-stop_behind Made request options folder hint out Unsummed h = no_behind request folder options hint (WriteFault None) tt
-stop_behind Made request options folder hint out Wanting h = no_behind request folder options hint NoMemory tt
+stop_behind : (Made : Result Outputs Status → Type 0) (request : Request) (name : List ℕ) (options : Options) (folder : FolderSeen) (hint : List ℕ) (out : SinkSeen) (stop : Stop)
+    → EndsWith Made (IsKnownBy request name options folder hint) folder out (Err stop) → TellsBehind request name options folder hint (answer_of (Err stop))
+stop_behind Made request name options folder hint out (Refused s by) h = h.2.1
+stop_behind Made request name options folder hint out (Unwritten text) h = no_behind request folder name options hint (WriteFault (Some text.name)) tt
+stop_behind Made request name options folder hint out Unsummed h = no_behind request folder name options hint (WriteFault None) tt
+stop_behind Made request name options folder hint out Wanting h = no_behind request folder name options hint NoMemory tt
 
 -- and of the lines behind a message that prints no points
-pub told_behind : (Made : Result Outputs Status → Type 0) (message : Option Numbering → Status → List ℕ) (request : Request) (options : Options) (folder : FolderSeen) (hint : List ℕ) (out err : SinkSeen) (stop : Stop) (s : Status)
-    → EndsWith Made (IsKnownBy request options folder hint) folder out (Err stop) → IsToldAs message stop err s → TellsBehind request options folder hint s
-told_behind Made message request options folder hint out err stop s h (inl told) = subst (TellsBehind request options folder hint) (sym told.0) (stop_behind Made request options folder hint out stop h)
-told_behind Made message request options folder hint out err stop s h (inr told) = subst (TellsBehind request options folder hint) (sym told.0) (no_behind request folder options hint NoMemory tt)
+pub told_behind : (Made : Result Outputs Status → Type 0) (message : Option Numbering → Status → List ℕ) (request : Request) (name : List ℕ) (options : Options) (folder : FolderSeen) (hint : List ℕ) (out err : SinkSeen) (stop : Stop) (s : Status)
+    → EndsWith Made (IsKnownBy request name options folder hint) folder out (Err stop) → IsToldAs message stop err s → TellsBehind request name options folder hint s
+told_behind Made message request name options folder hint out err stop s h (inl told) = subst (TellsBehind request name options folder hint) (sym told.0) (stop_behind Made request name options folder hint out stop h)
+told_behind Made message request name options folder hint out err stop s h (inr told) = subst (TellsBehind request name options folder hint) (sym told.0) (no_behind request folder name options hint NoMemory tt)
 
 pub wanted_made : (words : List (List ℕ)) (folder : FolderSeen) (wanted : Wanted) (outputs : Outputs) → FitWordsAnswer words (Ok wanted) → OutputsOfWanted wanted folder (Ok outputs)
     → OutputsOfModel words folder (Ok outputs)
@@ -244,7 +246,7 @@ fitted_told wanted input m n made final more h some f k = (m, made, h, some, n, 
 
 -- the mesh in the end
 final_mesh : (goal : Option Goal) (words : List (List ℕ)) (folder : FolderSeen) (input : Input) (m n : ℕ) (made final : Outputs) → fit_fault words ≡ None
-    → ModelAnswer fit_limits folder (fit_options words) (Ok input) → IsFinalBy goal (options_from (origin_in input) words) input m made n final
+    → ModelAnswer fit_limits folder (fit_name words) (fit_options words) (Ok input) → IsFinalBy goal (options_from (origin_in input) words) input m made n final
     → IsFinalMesh goal (options_from (origin_in input) words) words folder m made n final
 final_mesh None words folder input m n made final none read h = h
 final_mesh (Some goal) words folder input m n made final none read h =
@@ -257,7 +259,7 @@ model_mesh words folder outputs h =
     let e = h.1.1 in
     let input = h.2.0 in
     let f = h.2.2 in
-    let read = subst (λ (q : Wanted). ModelAnswer fit_limits folder q.options (Ok input)) e h.2.1 in
+    let read = subst (λ (q : Wanted). ModelAnswer fit_limits folder q.name q.options (Ok input)) e h.2.1 in
     let fitted = subst (λ (q : Wanted). IsFitted fit_limits (with_origin input q.options) input f.0 (Ok f.1)) e f.2 in
     let last = subst (λ (q : Wanted). IsFinalBy q.goal (with_origin input q.options) input f.0 f.1 f.4 f.5) e f.6 in
     let more = moved_text f.4 input.nodes.decimals in
@@ -293,8 +295,8 @@ made_wider Version words part wide w r h = h
 made_wider Check words part wide w r h = check_wider (others words) part wide w r h
 made_wider Mesh words part wide w r h =
     and_then_wider (FitWordsAnswer (others words)) (FitWordsAnswer (others words)) (λ wanted. OutputsOfWanted wanted part) (λ wanted. OutputsOfWanted wanted wide) (λ r h. h)
-    (λ wanted. and_then_wider (ModelAnswer fit_limits part wanted.options) (ModelAnswer fit_limits wide wanted.options) (λ input. IsFittedTo (wanted_from input wanted) input)
-    (λ input. IsFittedTo (wanted_from input wanted) input) (model_wider fit_limits part wide w wanted.options) (λ input r h. h)) r h
+    (λ wanted. and_then_wider (ModelAnswer fit_limits part wanted.name wanted.options) (ModelAnswer fit_limits wide wanted.name wanted.options) (λ input. IsFittedTo (wanted_from input wanted) input)
+    (λ input. IsFittedTo (wanted_from input wanted) input) (model_wider fit_limits part wide w wanted.name wanted.options) (λ input r h. h)) r h
 
 pub fit_wider : (words : List (List ℕ)) (part wide : FolderSeen) → IsWithin part wide → (r : Result Outputs Status) → OutputsOfFit words part r → OutputsOfFit words wide r
 fit_wider words = made_wider (request_of words) words

@@ -1,6 +1,5 @@
 -- The input that is read of a model.
 use Rattle.std.specs.Prelude.{◌≡◌, ℕ, List, Option, Some, None, Result, Ok, Err, if◌then◌else◌}
-use Rattle.command_words.specs.Names.{file_name}
 use Rattle.command_words.specs.declared.options.Extension.{Extension}
 use Rattle.command_words.specs.declared.options.Extension.TheVariants.{Off, Stl}
 use Rattle.command_words.specs.declared.options.Options.{Options}
@@ -38,30 +37,29 @@ surface_form extension = None
 abbrev pub named_surface : Options → Option Extension
 named_surface options = if options.piecewise then surface_form options.extension else None
 
--- the complex of the surface with this base and extension
+-- the complex of the surface in the file with this name
 abbrev pub SurfaceAnswer : Limits → FolderSeen → List ℕ → Extension → Result ComplexFile Status → Type 0
-SurfaceAnswer limits seen base form =
-    let name = file_name base form in
+SurfaceAnswer limits seen name form =
     AndThen (FetchAnswer limits seen name)
     (λ bytes. AndThen (TextAnswer name (surface_text_of form bytes)) (λ text. Gives (complex_file name text)))
 
--- the input of the surface with this base and extension
-abbrev pub SurfaceInputAnswer : Limits → FolderSeen → List ℕ → Extension → Result Input Status → Type 0
-SurfaceInputAnswer limits seen base form =
-    AndThen (SurfaceAnswer limits seen base form) (λ file. AndThen (NodesAnswer limits seen base file.text.nodes) (BoundedAnswer file))
+-- the input of the surface in the file with this name, whose base is this
+abbrev pub SurfaceInputAnswer : Limits → FolderSeen → List ℕ → List ℕ → Extension → Result Input Status → Type 0
+SurfaceInputAnswer limits seen name base form =
+    AndThen (SurfaceAnswer limits seen name form) (λ file. AndThen (NodesAnswer limits seen base file.text.nodes) (BoundedAnswer file))
 
--- what is read, by the surface that is named
-abbrev pub ModelBy : Option Extension → Limits → FolderSeen → Options → Result Input Status → Type 0
-ModelBy (Some form) limits seen options = SurfaceInputAnswer limits seen options.base form
-ModelBy None limits seen options = InputAnswer limits seen options
+-- what is read, by the surface that is named: it is in the file with this name
+abbrev pub ModelBy : Option Extension → Limits → FolderSeen → List ℕ → Options → Result Input Status → Type 0
+ModelBy (Some form) limits seen name options = SurfaceInputAnswer limits seen name options.base form
+ModelBy None limits seen name options = InputAnswer limits seen options
 
--- what is read of the model that the options name
-abbrev pub ReadAnswer : Limits → FolderSeen → Options → Result Input Status → Type 0
-ReadAnswer limits seen options = ModelBy (named_surface options) limits seen options
+-- what is read of the model that the options name, where a surface is in the file with this name
+abbrev pub ReadAnswer : Limits → FolderSeen → List ℕ → Options → Result Input Status → Type 0
+ReadAnswer limits seen name options = ModelBy (named_surface options) limits seen name options
 
--- the model that the options name, with its hole points and region points measured from its origin
-abbrev pub ModelAnswer : Limits → FolderSeen → Options → Result Input Status → Type 0
-ModelAnswer limits seen options = AndThen (ReadAnswer limits seen options) MovedAnswer
+-- that model, with its hole points and region points measured from its origin
+abbrev pub ModelAnswer : Limits → FolderSeen → List ℕ → Options → Result Input Status → Type 0
+ModelAnswer limits seen name options = AndThen (ReadAnswer limits seen name options) MovedAnswer
 
 -- the model that is made of what was read
 abbrev pub MovedFrom : Result Input Status → Result Input Status → Type 0
@@ -80,16 +78,16 @@ abbrev pub stated_of : Extension → List ℕ → Stated
 stated_of Stl bytes = if is_binary_stl bytes then Facets else Lines
 stated_of form bytes = Lines
 
--- the unit of the places in the surface with this base and extension: facets in a binary `.stl` file, lines in a text
+-- the unit of the places in the surface in the file with this name: facets in a binary `.stl` file, lines in a text
 abbrev pub IsStatedInSurface : FolderSeen → List ℕ → Extension → Stated → Type 0
-IsStatedInSurface seen base form stated =
-    (bytes : List ℕ) × Holds seen.files_before (file_name base form) bytes × (stated ≡ stated_of form bytes)
+IsStatedInSurface seen name form stated =
+    (bytes : List ℕ) × Holds seen.files_before name bytes × (stated ≡ stated_of form bytes)
 
 -- by the surface that is named
-abbrev pub IsStatedIf : Option Extension → FolderSeen → Options → Stated → Type 0
-IsStatedIf (Some form) seen options stated = IsStatedInSurface seen options.base form stated
-IsStatedIf None seen options stated = stated ≡ Lines
+abbrev pub IsStatedIf : Option Extension → FolderSeen → List ℕ → Stated → Type 0
+IsStatedIf (Some form) seen name stated = IsStatedInSurface seen name form stated
+IsStatedIf None seen name stated = stated ≡ Lines
 
--- the unit of the places in the file of the model that the options name
-abbrev pub IsStatedBy : FolderSeen → Options → Stated → Type 0
-IsStatedBy seen options stated = IsStatedIf (named_surface options) seen options stated
+-- the unit of the places in the file of the model that the options name, where a surface is in the file with this name
+abbrev pub IsStatedBy : FolderSeen → List ℕ → Options → Stated → Type 0
+IsStatedBy seen name options stated = IsStatedIf (named_surface options) seen name stated

@@ -84,7 +84,7 @@ wanted_from input wanted = record wanted { options = with_origin input wanted.op
 -- the model that the options name is read, and the outputs of its mesh are made
 abbrev pub OutputsOfWanted : Wanted → FolderSeen → Result Outputs Status → Type 0
 OutputsOfWanted wanted folder =
-    AndThen (ModelAnswer fit_limits folder wanted.options) (λ input. IsFittedTo (wanted_from input wanted) input)
+    AndThen (ModelAnswer fit_limits folder wanted.name wanted.options) (λ input. IsFittedTo (wanted_from input wanted) input)
 
 -- the words are read, and then the outputs of the model that they name are made: each refusal is one of the first step that refuses
 abbrev pub OutputsOfModel : List (List ℕ) → FolderSeen → Result Outputs Status → Type 0

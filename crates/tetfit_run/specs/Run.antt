@@ -9,7 +9,7 @@ use Rattle.tetfit_run.specs.Trying.{IsFitted, IsNumbered, at_decimals}
 use Rattle.tetfit_run.specs.Stages.{AreStagesPut, since, until}
 use Rattle.refining.specs.declared.goal.Goal.{Goal}
 use Rattle.tetfit_run.specs.Refined.{IsRefinedMeshBy}
-use Rattle.tetfit_run.specs.Words.{fit_fault, fit_goal, fit_options, others, request_of}
+use Rattle.tetfit_run.specs.Words.{fit_fault, fit_goal, fit_name, fit_options, others, request_of}
 use Rattle.tetfit_run.specs.declared.model.Model.{Model}
 use Rattle.tetfit_run.specs.declared.model.Stated.{Stated}
 use Rattle.tetfit_run.specs.declared.page.TheConstants.{PAGE, VERSION}
@@ -59,7 +59,8 @@ IsFitComplete words folder out status =
 -- the input is the model that the words name as it is tried with options, which have its origin
 abbrev pub IsTriedOf : Options → List (List ℕ) → FolderSeen → Input → Input → Type 0
 IsTriedOf options words folder input at =
-    ModelAnswer fit_limits folder (fit_options words) (Ok input) × (options.origin ≡ origin_in input) × (at ≡ tried options input)
+    ModelAnswer fit_limits folder (fit_name words) (fit_options words) (Ok input) × (options.origin ≡ origin_in input)
+    × (at ≡ tried options input)
 
 -- the options of words, with coordinates measured from an origin
 abbrev pub options_from : Option WholePoint → List (List ℕ) → Options
@@ -125,56 +126,56 @@ IsUnfitted options model hint stop = ⊥
 
 -- Where the message of the status prints points, these are their numbers: those of the points of the model at those
 -- decimals. The lines that follow are on the segment of the model, or have the coordinates of the parts
-abbrev pub IsNumberingOf : Options → FolderSeen → List ℕ → Status → Option Numbering → Type 0
-IsNumberingOf options folder hint status by =
+abbrev pub IsNumberingOf : List ℕ → Options → FolderSeen → List ℕ → Status → Option Numbering → Type 0
+IsNumberingOf name options folder hint status by =
     IsTrue (names_points status)
-    → (input : Input) × ModelAnswer fit_limits folder options (Ok input)
+    → (input : Input) × ModelAnswer fit_limits folder name options (Ok input)
     × (m : ℕ) × IsFitted fit_limits (with_origin input options) input m (Err status)
     × (bound : Bound) × BoundTried fit_limits (at_decimals m (with_origin input options)) input (Ok bound)
     × (by ≡ Some (numbering_of bound.table))
     × IsHintBy fit_limits (at_decimals m (with_origin input options)) input (numbering_of bound.table) status hint
 
 abbrev pub IsFitNumbering : List (List ℕ) → FolderSeen → List ℕ → Status → Option Numbering → Type 0
-IsFitNumbering words = IsNumberingOf (fit_options words)
+IsFitNumbering words = IsNumberingOf (fit_name words) (fit_options words)
 
 -- The lines that follow a message that prints no points. For a model off the grid, the first point that is off it with coordinates
 -- rounded to whole numbers is reported: its place in the file, by the line, or by the facet of a binary file, and its coordinates. For
 -- points in one plane, that they are, or that the file has none, and that they were rounded, where they were. For a mesh without a
 -- tetrahedron, which side is open, that each side is shared, or that hole points carve all of it
-abbrev pub TellsUnnamed : Options → FolderSeen → List ℕ → Status → Type 0
-TellsUnnamed options folder hint (Limit (Grid line)) =
-    (input : Input) × ModelAnswer fit_limits folder options (Ok input)
-    × (stated : Stated) × IsStatedBy folder options stated
+abbrev pub TellsUnnamed : List ℕ → Options → FolderSeen → List ℕ → Status → Type 0
+TellsUnnamed name options folder hint (Limit (Grid line)) =
+    (input : Input) × ModelAnswer fit_limits folder name options (Ok input)
+    × (stated : Stated) × IsStatedBy folder name options stated
     × (hint ≡ off_grid_text fit_limits.grid (origin_in input) stated input.nodes.decimals)
-TellsUnnamed options folder hint Flat =
-    (input : Input) × ModelAnswer fit_limits folder options (Ok input)
+TellsUnnamed name options folder hint Flat =
+    (input : Input) × ModelAnswer fit_limits folder name options (Ok input)
     × (m : ℕ) × IsFitted fit_limits (with_origin input options) input m (Err Flat)
     × (hint ≡ flat_text (at_decimals m (with_origin input options)) input.nodes.decimals)
-TellsUnnamed options folder hint Empty =
-    (input : Input) × ModelAnswer fit_limits folder options (Ok input)
+TellsUnnamed name options folder hint Empty =
+    (input : Input) × ModelAnswer fit_limits folder name options (Ok input)
     × (m : ℕ) × IsEmptyAt (with_origin input options) input m
     × TellsOpening fit_limits (at_decimals m (with_origin input options)) input hint
-TellsUnnamed options folder hint status = Unit {0}
+TellsUnnamed name options folder hint status = Unit {0}
 
 -- these lines follow the message of a mesh, and none that of a check
-abbrev pub TellsBehind : Request → Options → FolderSeen → List ℕ → Status → Type 0
-TellsBehind Check options folder hint status = Unit {0}
-TellsBehind request options folder hint status = TellsUnnamed options folder hint status
+abbrev pub TellsBehind : Request → List ℕ → Options → FolderSeen → List ℕ → Status → Type 0
+TellsBehind Check name options folder hint status = Unit {0}
+TellsBehind request name options folder hint status = TellsUnnamed name options folder hint status
 
 -- both
-abbrev pub IsKnownBy : Request → Options → FolderSeen → List ℕ → Status → Option Numbering → Type 0
-IsKnownBy request options folder hint status by =
-    IsNumberingOf options folder hint status by × TellsBehind request options folder hint status
+abbrev pub IsKnownBy : Request → List ℕ → Options → FolderSeen → List ℕ → Status → Option Numbering → Type 0
+IsKnownBy request name options folder hint status by =
+    IsNumberingOf name options folder hint status by × TellsBehind request name options folder hint status
 
-abbrev pub IsKnownOf : Options → FolderSeen → List ℕ → Status → Option Numbering → Type 0
+abbrev pub IsKnownOf : List ℕ → Options → FolderSeen → List ℕ → Status → Option Numbering → Type 0
 IsKnownOf = IsKnownBy Mesh
 
 abbrev pub IsKnown : List (List ℕ) → FolderSeen → List ℕ → Status → Option Numbering → Type 0
-IsKnown words = IsKnownBy (request_of words) (fit_options (others words))
+IsKnown words = IsKnownBy (request_of words) (fit_name (others words)) (fit_options (others words))
 
 -- the stages, where they are asked for, and then the message of each answer but Done, which is cut only where it fails itself
 abbrev pub IsFitTold : List (List ℕ) → FolderSeen → SinkSeen → Status → Type 0
 IsFitTold words folder err status =
     (mid : SinkState) × AreStagesPut words status (until mid err)
-    × (hint : List ℕ) × TellsBehind (request_of words) (fit_options (others words)) folder hint status
+    × (hint : List ℕ) × TellsBehind (request_of words) (fit_name (others words)) (fit_options (others words)) folder hint status
     × TellsBy (fit_message (request_of words) (others words) hint) (IsFitNumbering (others words) folder hint) (since mid err) status

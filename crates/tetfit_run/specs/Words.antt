@@ -1,7 +1,7 @@
 -- The words of `tetfit`.
-use Rattle.std.specs.Prelude.{◌≡◌, ℕ, ◌+◌, ◌*◌, ◌^◌, min, pos, unsigned_abs, int_lt, Bool, true, false, not, ◌||◌, ◌&&◌, ◌==◌, nat_eq, nat_le, nat_lt, length, position, take, drop, filter, List, [], ◌∷◌, ◌++◌, codes, Option, Some, None, IfSome, is_some, option_and_then, unwrap_or, if◌then◌else◌}
+use Rattle.std.specs.Prelude.{◌≡◌, ℕ, ◌+◌, ◌-◌, ◌*◌, ◌^◌, min, pos, unsigned_abs, int_lt, Bool, true, false, not, ◌||◌, ◌&&◌, ◌==◌, nat_eq, nat_le, nat_lt, length, position, take, drop, map, filter, List, [], ◌∷◌, ◌++◌, codes, Option, Some, None, IfSome, is_some, option_and_then, unwrap_or, if◌then◌else◌}
 use Rattle.std.specs.List.{list_any, starts_with}
-use Rattle.std.specs.Str.{bytes_eq}
+use Rattle.std.specs.Str.{bytes_eq, str_eq_ignore_ascii_case}
 use Rattle.std.specs.Option.{option_map, option_map_or, option_or}
 use Rattle.tet_text.specs.Decimals.{Scaled, decimal_of}
 use Rattle.tet_text.specs.Numbers.{number_of}
@@ -14,10 +14,13 @@ use Rattle.tetfit_run.specs.declared.wanted.Wanted.{Wanted}
 use Rattle.tetfit_run.specs.declared.request.Request.TheVariants.{Page, Version, Check, Mesh}
 use Rattle.command_words.specs.declared.fault.WordsFault.{WordsFault}
 use Rattle.command_words.specs.declared.fault.WordsFault.TheVariants.{Usage, NoMemory}
+use Rattle.command_words.specs.declared.options.Extension.{Extension}
+use Rattle.command_words.specs.declared.options.Extension.TheVariants.{Off, Stl}
 use Rattle.command_words.specs.declared.options.Formats.{Formats}
 use Rattle.command_words.specs.declared.options.Options.{Options}
-use Rattle.command_words.specs.Grammar.{is_cluster, within, words_fault_within}
+use Rattle.command_words.specs.Grammar.{is_cluster, name_of, within, words_fault_within}
 use Rattle.command_words.specs.Meaning.{options_within}
+use Rattle.command_words.specs.Names.{file_name, text_of}
 
 -- ---- words of their own: they ask for the page, for the version, for the stages to be said, and for a check
 
@@ -191,6 +194,31 @@ plain_words words = filter is_plain words
 abbrev pub others : List (List ℕ) → List (List ℕ)
 others words = plain_words words ++ filter is_own words
 
+-- ---- the name of the model: the extension of a surface may have letters of either case, and the file is the one with that very name
+
+-- the extension of a surface that these bytes are, in letters of either case
+abbrev pub surface_of_end : List ℕ → Option Extension
+surface_of_end tail =
+    if str_eq_ignore_ascii_case tail (text_of Off) then Some Off else
+    if str_eq_ignore_ascii_case tail (text_of Stl) then Some Stl else None
+
+-- the word with this extension in place of its last four bytes
+abbrev pub respelled : List ℕ → Option Extension → List ℕ
+respelled word None = word
+respelled word (Some form) = file_name (take (length word - 4) word) form
+
+-- the word, with the extension of a surface at its end in small letters: `part.STL` as `part.stl`
+unfoldable pub in_small : List ℕ → List ℕ
+in_small word = respelled word (surface_of_end (drop (length word - 4) word))
+
+-- the plain words as that grammar takes them
+abbrev pub grammar_words : List (List ℕ) → List (List ℕ)
+grammar_words words = map in_small (plain_words words)
+
+-- the name of the model, as it was written
+abbrev pub fit_name : List (List ℕ) → List ℕ
+fit_name words = name_of words
+
 -- weights, a check, decimals and the sample
 abbrev pub asks_elsewhere : Options → Bool
 asks_elsewhere options = (options.weighted || options.check) || (is_some options.decimals || is_some options.sample)
@@ -227,7 +255,7 @@ halvings_for second_order options =
 -- the options that words ask for; the limits of regions need the regions of tetrahedra
 abbrev pub fit_options : List (List ℕ) → Options
 fit_options words =
-    let plain = plain_options (plain_words words) in
+    let plain = plain_options (grammar_words words) in
     let formats = formats_of words in
     record plain {
       formats = formats;
@@ -235,9 +263,9 @@ fit_options words =
       regions = plain.regions || list_any asks_limits words;
     }
 
--- and with them what the tetrahedra are to be like
+-- and with them the name of the model, and what the tetrahedra are to be like
 abbrev pub fit_wanted : List (List ℕ) → Wanted
-fit_wanted words = record { options = fit_options words; goal = fit_goal words }
+fit_wanted words = record { name = fit_name words; options = fit_options words; goal = fit_goal words }
 
 -- a fault of the grammar, told by its word and the place in it; in place of one behind the last word, the first word that asks for one of
 -- the four
@@ -275,7 +303,7 @@ goal_fault words piecewise =
 abbrev pub fit_fault : List (List ℕ) → Option (ℕ × ℕ)
 fit_fault words =
     option_or (option_map (λ i. (i + 1, 3)) (position is_bad_bound words))
-    (option_or (option_map (among_all words) (plain_fault (plain_words words)))
+    (option_or (option_map (among_all words) (plain_fault (grammar_words words)))
     (goal_fault words (fit_options words).piecewise))
 
 -- the tetrahedra are to be like something only where the model has facets, and then the bounds are numbers of a few digits

@@ -53,7 +53,7 @@ pub(crate) fn check_fault(words: &Words) -> Option<(usize, usize)>
 }
 
 /// The first name among the words, or the empty one.
-fn name_of(words: &Words) -> &[u8]
+pub(crate) fn name_of(words: &Words) -> &[u8]
     ensures { result.now ≡ name_of words.now }
 {
     for word in words.as_slice() {

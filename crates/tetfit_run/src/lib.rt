@@ -17,6 +17,7 @@ mod kinds;
 mod limits;
 mod messages;
 mod model;
+mod names;
 mod opening;
 mod outputs;
 mod page;

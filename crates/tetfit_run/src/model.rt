@@ -15,7 +15,7 @@ ghost use Rattle.tetfit_run.specs.Models.{input_in, stated_of, IsStatedBy, IsSta
 ghost use Rattle.tetfit_run.specs.Models.{ModelAnswer, MovedFrom, SurfaceInputAnswer};
 
 use crate::grids::most_tried;
-use command_words::{Extension, Options, file_name};
+use command_words::{Extension, Options};
 use grid_coords::{WholePoint, origin_of};
 use node_files::Limits;
 use plc_files::{PlcFault, PlcText, measured_plc};
@@ -110,27 +110,28 @@ fn with_stated(read: Result<Input, Status>, stated: Stated) -> Result<Model, Sta
     }
 }
 
-/// The model of the surface with this base and extension.
+/// The model of the surface in the file `name`, whose base is `base`.
 fn read_surface<F: Folder>(
     alloc: Global,
     limits: Limits,
+    name: &Name,
     base: &Name,
     form: Extension,
     folder: &mut F,
 ) -> Result<Model, Status>
     requires { AreIndexable limits }
     ensures answer { AndThen (SurfaceInputAnswer limits
-        (folder_seen F.state folder.old folder.new) base.now form) MovedAnswer
+        (folder_seen F.state folder.old folder.new) name.now base.now form) MovedAnswer
         (input_in result) }
     ensures stated { IfOk result (λ model. IsStatedInSurface
-        (folder_seen F.state folder.old folder.new) base.now form model.stated) }
+        (folder_seen F.state folder.old folder.new) name.now form model.stated) }
     ensures sound { IfOk result (λ model. IsSound model.input) }
     ensures origin { IfOk result (λ model. model.origin ≡ origin_in model.input) }
     ensures near { IfOk result (λ model. IfSome model.origin (IsNear (most_tried model.input))) }
     ensures only_read { IsOnlyRead (folder_seen F.state folder.old folder.new) }
 {
-    let name = file_name(alloc, base, form)?;
-    let file = fetch(alloc, limits, name, folder)?;
+    let asked = Name::from_slice(alloc, name.as_slice())?;
+    let file = fetch(alloc, limits, asked, folder)?;
     let stated = stated_of(form, &file.bytes);
     let surface = surface_of(alloc, form, file)?;
     let read = with_points(alloc, limits, base, surface, folder);
@@ -138,28 +139,30 @@ fn read_surface<F: Folder>(
 }
 
 /// The model that the options name: as `read_input` reads it, but that an `.off` or `.stl` file is
-/// read in the wide grammar (`read_wide_off`, `read_wide_stl`), and an `.stl` file may be a binary
-/// one, which is known by its length; with its hole points and region points measured from its
-/// origin. Each file is fetched once. It refuses as `read_input` does, and stores nothing.
+/// the one with this name, and is read in the wide grammar (`read_wide_off`, `read_wide_stl`), and
+/// an `.stl` file may be a binary one, which is known by its length; with its hole points and
+/// region points measured from its origin. Each file is fetched once. It refuses as `read_input`
+/// does, and stores nothing.
 pub(crate) fn read_model<F: Folder>(
     alloc: Global,
     limits: Limits,
+    name: &Name,
     options: &Options,
     folder: &mut F,
 ) -> Result<Model, Status>
     requires limits { AreIndexable limits }
     requires sample { IfSome options.now.sample (λ n. n ≤ 10000) }
     ensures answer { ModelAnswer limits
-        (folder_seen F.state folder.old folder.new) options.now (input_in result) }
+        (folder_seen F.state folder.old folder.new) name.now options.now (input_in result) }
     ensures stated { IfOk result (λ model. IsStatedBy
-        (folder_seen F.state folder.old folder.new) options.now model.stated) }
+        (folder_seen F.state folder.old folder.new) name.now options.now model.stated) }
     ensures sound { IfOk result (λ model. IsSound model.input) }
     ensures origin { IfOk result (λ model. model.origin ≡ origin_in model.input) }
     ensures near { IfOk result (λ model. IfSome model.origin (IsNear (most_tried model.input))) }
     ensures only_read { IsOnlyRead (folder_seen F.state folder.old folder.new) }
 {
     match named_surface(options) {
-        Some(form) => read_surface(alloc, limits, &options.base, form, folder),
+        Some(form) => read_surface(alloc, limits, name, &options.base, form, folder),
         None => {
             let read = read_input(alloc, limits, options, folder);
             with_stated(read, Stated::Lines)

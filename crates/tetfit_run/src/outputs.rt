@@ -37,7 +37,7 @@ use command_words::{Options, WordsFault};
 use refining::{Goal, Watch};
 use run_steps::{Input, Outputs, Report, Status};
 use std::alloc::Global;
-use tet_ports::{Bytes, Folder, NoMemory, Words};
+use tet_ports::{Bytes, Folder, Name, NoMemory, Words};
 use tetgen_run::Stop;
 
 /// The greatest coordinate of a model whose mesh is refined, in units of its decimals: eight
@@ -269,6 +269,7 @@ fn wanted_from(alloc: Global, wanted: &Wanted, model: &Model) -> Result<Wanted, 
     ensures ranges { IfOk result (λ made. AreTriable made.options model.now.input) }
 {
     Ok(Wanted {
+        name: Name::from_slice(alloc, wanted.name.as_slice())?,
         options: with_origin(alloc, &wanted.options, model.origin)?,
         goal: wanted.goal,
     })
@@ -291,12 +292,12 @@ fn outputs_of_wanted<F: Folder, W: Watch>(
     ensures stopped { IfErr result (StopsSo
         (OutputsOfWanted wanted.now
         (folder_seen F.state folder.old folder.new))
-        (IsKnownOf wanted.now.options
+        (IsKnownOf wanted.now.name wanted.now.options
         (folder_seen F.state folder.old folder.new) hint.new)) }
     ensures only_read { IsOnlyRead (folder_seen F.state folder.old folder.new) }
     ensures shown { SeesRounds W.shown watch.old watch.new }
 {
-    let model = read_model(alloc, fit_limits(), &wanted.options, folder)?;
+    let model = read_model(alloc, fit_limits(), &wanted.name, &wanted.options, folder)?;
     let placed = wanted_from(alloc, wanted, &model)?;
     fitted_outputs(alloc, &placed, &model, hint, watch)
 }

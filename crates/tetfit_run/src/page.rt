@@ -5,7 +5,8 @@ pub const PAGE: &[u8] = b"\
 tetfit [switches] name\n\
 \n\
 Fills a model with tetrahedra: the points of a .node file, or the solid that\n\
-the facets of a .poly, .smesh, .off or .stl file bound, also a binary .stl.\n\
+the facets of a .poly, .smesh, .off or .stl file bound, also a binary .stl;\n\
+the extensions .off and .stl may have capitals.\n\
 Coordinates keep at most 35 decimals, and fewer where the grid, which has\n\
 2^29 units to each side of the middle, is too small or too coarse for them; a\n\
 refusal that this rounding may have made says so.\n\

@@ -6,17 +6,21 @@ ghost use Rattle.command_words.specs.declared.fault.WordsFault.TheVariants.{Usag
 ghost use Rattle.tetfit_run.specs.Words.{IsPlainRequest, IsRefinable, among_all};
 ghost use Rattle.tetfit_run.specs.Words.{fit_fault, fit_wanted, halvings_for, plain_words};
 
+use crate::check_words::name_of;
 use crate::goal::{asks_region_limits, bad_bound, fit_goal, goal_fault};
+use crate::names::all_in_small;
 use crate::request::{MOST_HALVINGS, formats_of, plain_words, read_options};
 use command_words::{Options, WordsFault};
 use refining::Goal;
 use std::alloc::Global;
-use tet_ports::Words;
+use tet_ports::{Name, Words};
 
 /// What words ask for: the options of a mesh, and what its tetrahedra are to be like, where the
 /// words bound their volume or their shape.
 #[derive(Drop)]
 pub struct Wanted {
+    /// The name of the model as it was written: that of the file, where it is a surface.
+    pub name: Name,
     pub options: Options,
     pub goal: Option<Goal>,
 }
@@ -53,7 +57,9 @@ fn halvings_for(second_order: bool, options: &Options) -> u32
     }
 }
 
-/// The options and the goal that the words without `-V` ask for.
+/// The name of the model, the options and the goal that the words without `-V` ask for. A name that
+/// ends with `.off` or `.stl` in letters of either case names that very file, and its options are
+/// those of the name with small letters there.
 ///
 /// `Usage` exactly where a word begins with `-a` and something else than a number above 0 with at
 /// most 36 decimals is behind that, or one begins with `-q` and something else than a number from
@@ -78,7 +84,8 @@ pub fn read_wanted(alloc: Global, words: &Words) -> Result<Wanted, WordsFault>
         });
     }
     let plain = plain_words(alloc, words)?;
-    let mut options = match read_options(alloc, &plain) {
+    let small = all_in_small(alloc, &plain)?;
+    let mut options = match read_options(alloc, &small) {
         Ok(options) => options,
         Err(fault) => return Err(among_all(words, plain.len(), fault)),
     };
@@ -89,5 +96,9 @@ pub fn read_wanted(alloc: Global, words: &Words) -> Result<Wanted, WordsFault>
     if let Some((word, place)) = goal_fault(words, &goal, options.piecewise) {
         return Err(WordsFault::Usage { word, place });
     }
-    Ok(Wanted { options, goal })
+    Ok(Wanted {
+        name: Name::from_slice(alloc, name_of(words))?,
+        options,
+        goal,
+    })
 }

@@ -27,7 +27,11 @@ const NONE: &[u8] = b"\
 tetfit: nothing to mesh: the file has no points and no facets\n\
 tetfit: four points that are not in one plane are wanted\n";
 
-static SURFACES: [Run<'static>; 3] = [
+const MISSING: &[u8] = b"\
+tetfit: part.Off: not found\n\
+tetfit: the file of a model is .node, .poly, .smesh, .off or .stl: give its name whole\n";
+
+static SURFACES: [Run<'static>; 5] = [
     Run {
         name: "points with colors",
         held: &[(b"t.off", &[COLORED])],
@@ -53,6 +57,23 @@ static SURFACES: [Run<'static>; 3] = [
                 Some(b"4 1\n0 0 1 2 1\n1 0 1 3 1\n2 0 2 3 2\n3 1 2 3 2\n"),
             ),
         ],
+    },
+    Run {
+        name: "the extension in capitals, beside a file with small letters",
+        held: &[
+            (b"part.STL", &[SIDES, OTHERS]),
+            (b"part.stl", &[b"solid\nendsolid\n"]),
+        ],
+        words: &[b"part.STL"],
+        end: Told(TETRAHEDRON),
+        files: &[(b"part.1.ele", Some(ELE))],
+    },
+    Run {
+        name: "no file with that very extension",
+        held: &[(b"part.off", &[COLORED])],
+        words: &[b"part.Off"],
+        end: Refused(2, MISSING),
+        files: &[(b"part.1.ele", None)],
     },
     Run {
         name: "no facet",

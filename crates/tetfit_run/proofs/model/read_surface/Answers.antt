@@ -1,4 +1,4 @@
-use Rattle.std.proofs.Common.{Ok}
+use Rattle.std.proofs.Common.{Ok, ◌∙◌}
 use Rattle.run_steps.specs.Reading.{NodesAnswer, BoundedAnswer}
 use Rattle.tet_ports.specs.Seen.{FolderSeen, folder_seen}
 use Rattle.run_steps.specs.Steps.{AndThen}
@@ -13,6 +13,7 @@ pub returns-clause-answer : goal.returns-clause-answer
 returns-clause-answer g c =
     let F = g.F.Folder in
     let l = c.args.limits in
+    let name = c.args.name.now in
     let base = c.args.base.now in
     let form = c.args.form in
     let file = c.in_ok-file.file in
@@ -24,10 +25,10 @@ returns-clause-answer g c =
     let b = c.with_points-read.ensures in
     let one : IsWithin first wide = first_within F.state c.args.folder.now c.fetch.new.folder c.with_points-read.new.folder b.only_read in
     let two : IsWithin second wide = last_within F.state c.args.folder.now c.fetch.new.folder c.with_points-read.new.folder a.only_read in
-    let read = surface_fetched l first base form c.in_ok-name.name file.name file.bytes (Ok surface) c.in_ok-name.ensures a.named a.read c.in_ok-surface.ensures.answer in
-    moved_on (SurfaceInputAnswer l wide base form) c.with_points-read.result (input_in c.with_stated.result)
-    (and_then_ok (SurfaceAnswer l wide base form) (λ f. AndThen (NodesAnswer l wide base f.text.nodes) (BoundedAnswer f)) surface c.with_points-read.result
-    (surface_wider l first wide one base form (Ok surface) read) (bounded_wider l second wide two base surface c.with_points-read.result b.answer)) c.with_stated.ensures.input
+    let read = surface_fetched l first name form c.in_ok-asked.asked file.name file.bytes (Ok surface) (c.in_ok-asked.ensures ∙ c.as_slice.ensures) a.named a.read c.in_ok-surface.ensures.answer in
+    moved_on (SurfaceInputAnswer l wide name base form) c.with_points-read.result (input_in c.with_stated.result)
+    (and_then_ok (SurfaceAnswer l wide name form) (λ f. AndThen (NodesAnswer l wide base f.text.nodes) (BoundedAnswer f)) surface c.with_points-read.result
+    (surface_wider l first wide one name form (Ok surface) read) (bounded_wider l second wide two base surface c.with_points-read.result b.answer)) c.with_stated.ensures.input
 
 pub returns-clause-stated : goal.returns-clause-stated
 returns-clause-stated g c =
@@ -35,4 +36,4 @@ returns-clause-stated g c =
     let file = c.in_ok-file.file in
     let wide : FolderSeen = folder_seen F.state c.args.folder.now c.with_points-read.new.folder in
     let a = c.in_ok-file.ensures in
-    stated_told c.args.limits wide c.args.base.now c.args.form c.in_ok-name.name file.name file.bytes c.stated_of-stated.result c.with_stated.result c.in_ok-name.ensures a.named a.read c.stated_of-stated.ensures c.with_stated.ensures.stated
+    stated_told c.args.limits wide c.args.name.now c.args.form c.in_ok-asked.asked file.bytes c.stated_of-stated.result c.with_stated.result (c.in_ok-asked.ensures ∙ c.as_slice.ensures) a.read c.stated_of-stated.ensures c.with_stated.ensures.stated

@@ -1,6 +1,6 @@
 use Rattle.std.proofs.Common.{◌≡◌, Ok, sym, subst, ◌∙◌}
 use Rattle.std.specs.Prelude.{IfOk, IfErr}
-use Rattle.tetfit_run.specs.Words.{fit_options, others, request_of}
+use Rattle.tetfit_run.specs.Words.{fit_name, fit_options, others, request_of}
 use Rattle.tetfit_run.specs.declared.request.Request.TheVariants.{Check, Mesh}
 use Rattle.tet_ports.specs.Seen.{FolderSeen, folder_seen}
 use Rattle.tetgen_run.specs.Ends.{StopsSo}
@@ -31,10 +31,11 @@ returns-in_ok-wanted-in-Mesh-clause-stopped g c =
     let words = c.args.words.now in
     let wanted = c.in_ok-wanted-in-Mesh.wanted in
     let made = c.outputs_of_wanted.result in
+    let name = fit_name (others words) in
     let options = fit_options (others words) in
     let asked : request_of words ≡ Mesh = sym c.request_of.ensures ∙ c.in-Mesh.is in
-    subst (λ r. IfErr made (StopsSo (MadeBy r words folder) (IsKnownBy r options folder hint))) (sym asked)
-    (err_to made (StopsSo (OutputsOfWanted wanted folder) (IsKnownOf wanted.options folder hint)) (StopsSo (OutputsOfModel (others words) folder) (IsKnownOf options folder hint))
+    subst (λ r. IfErr made (StopsSo (MadeBy r words folder) (IsKnownBy r name options folder hint))) (sym asked)
+    (err_to made (StopsSo (OutputsOfWanted wanted folder) (IsKnownOf wanted.name wanted.options folder hint)) (StopsSo (OutputsOfModel (others words) folder) (IsKnownOf name options folder hint))
     (λ stop h. wanted_stop (others words) folder hint wanted stop c.in_ok-wanted-in-Mesh.ensures.understood h) c.outputs_of_wanted.ensures.stopped)
 
 pub returns-in-Check-clause-made : goal.returns-in-Check-clause-made

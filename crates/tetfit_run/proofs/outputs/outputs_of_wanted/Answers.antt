@@ -19,7 +19,7 @@ returns-in_err-model-clause-stopped g c =
     let options = wanted.options in
     let status = c.in_err-model.field-0.0 in
     let p = err_from_is_err_and c.from_residual.result c.from_residual.ensures.1 in
-    rw (p.1, p.2) (model_stops folder wanted c.args.hint.now status (subst (λ limits. ModelAnswer limits folder options (Err status)) c.fit_limits.ensures.values c.in_err-model.ensures.answer))
+    rw (p.1, p.2) (model_stops folder wanted c.args.hint.now status (subst (λ limits. ModelAnswer limits folder wanted.name options (Err status)) c.fit_limits.ensures.values c.in_err-model.ensures.answer))
 
 pub returns-clause-stopped : goal.returns-clause-stopped
 returns-clause-stopped g c =
@@ -29,9 +29,9 @@ returns-clause-stopped g c =
     let options = wanted.options in
     let model = c.in_ok-model.model in
     let hint = c.fitted_outputs.new.hint in
-    let read = subst (λ limits. ModelAnswer limits folder options (Ok model.input)) c.fit_limits.ensures.values c.in_ok-model.ensures.answer in
+    let read = subst (λ limits. ModelAnswer limits folder wanted.name options (Ok model.input)) c.fit_limits.ensures.values c.in_ok-model.ensures.answer in
     let unfitted = subst (λ (q : Wanted). IfErr c.fitted_outputs.result (IsUnfitted q.options model hint)) c.in_ok-placed.ensures.value c.fitted_outputs.ensures.stopped in
-    err_to c.fitted_outputs.result (IsUnfitted (with_origin model.input options) model hint) (StopsSo (OutputsOfWanted wanted folder) (IsKnownOf options folder hint))
+    err_to c.fitted_outputs.result (IsUnfitted (with_origin model.input options) model hint) (StopsSo (OutputsOfWanted wanted folder) (IsKnownOf wanted.name options folder hint))
     (λ stop. unfitted_stops folder wanted model hint stop read c.in_ok-model.ensures.stated) unfitted
 
 pub returns-clause-made : goal.returns-clause-made
@@ -40,6 +40,6 @@ returns-clause-made g c =
     let folder : FolderSeen = folder_seen F.state c.args.folder.now c.read_model.new.folder in
     let wanted = c.args.wanted.now in
     let input = c.in_ok-model.model.input in
-    let read = subst (λ limits. ModelAnswer limits folder wanted.options (Ok input)) c.fit_limits.ensures.values c.in_ok-model.ensures.answer in
+    let read = subst (λ limits. ModelAnswer limits folder wanted.name wanted.options (Ok input)) c.fit_limits.ensures.values c.in_ok-model.ensures.answer in
     ok_to c.fitted_outputs.result (λ outputs. IsFittedTo c.in_ok-placed.placed input (Ok outputs)) (λ outputs. OutputsOfWanted wanted folder (Ok outputs))
     (λ outputs made. (input, read, subst (λ (q : Wanted). IsFittedTo q input (Ok outputs)) c.in_ok-placed.ensures.value made)) c.fitted_outputs.ensures.made

@@ -1,5 +1,5 @@
 use Rattle.std.proofs.Common.{[], Ok, refl, subst}
-use Rattle.tetfit_run.specs.Words.{fit_options, others, request_of}
+use Rattle.tetfit_run.specs.Words.{fit_name, fit_options, others, request_of}
 use Rattle.tet_ports.specs.Seen.{FolderSeen, SinkSeen, folder_seen, sink_seen}
 use Rattle.run_steps.specs.declared.status.Status.TheVariants.{Done}
 use Rattle.tetgen_run.proofs.Endings.{end_answers, end_leaves, stop_answers, stop_leaves, stop_tells}
@@ -94,7 +94,7 @@ returns-in-Ok-clause-told g c =
     let mid = c.run.new.err in
     let first : SinkSeen = sink_seen E.state c.args.err.now mid in
     let stages = subst (λ r. AreStagesPut words (answer_of r) first) c.in-Ok.is c.run.ensures.stages in
-    (E.state mid, stages, [], no_behind (request_of words) (folder_seen g.F.Folder.state c.args.folder.now c.run.new.folder) (fit_options (others words)) [] Done tt, refl)
+    (E.state mid, stages, [], no_behind (request_of words) (folder_seen g.F.Folder.state c.args.folder.now c.run.new.folder) (fit_name (others words)) (fit_options (others words)) [] Done tt, refl)
 
 pub returns-clause-told : goal.returns-clause-told
 returns-clause-told g c =
@@ -118,6 +118,6 @@ returns-clause-told g c =
       E.state mid,
       stages_told message words stop first err c.tell.result tells stages,
       hint,
-      told_behind made message (request_of words) (fit_options (others words)) folder hint out err stop c.tell.result ended tells,
-      stop_tells message made (IsFitNumbering (others words) folder hint) (fit_refuses words folder) (numbers_points (others words) folder hint) folder out err stop c.tell.result (ends_numbered made (request_of words) (fit_options (others words)) folder hint out stop ended) tells,
+      told_behind made message (request_of words) (fit_name (others words)) (fit_options (others words)) folder hint out err stop c.tell.result ended tells,
+      stop_tells message made (IsFitNumbering (others words) folder hint) (fit_refuses words folder) (numbers_points (others words) folder hint) folder out err stop c.tell.result (ends_numbered made (request_of words) (fit_name (others words)) (fit_options (others words)) folder hint out stop ended) tells,
     )
