@@ -88,6 +88,28 @@ fn copied(alloc: Global, points: &Points) -> Result<Points, NoMemory>
     Ok(list)
 }
 
+/// Meshes a complex on the kept points of a table, as the options of the arrays ask for.
+fn mesh_bound(
+    alloc: Global,
+    complex: &ArrayComplex<'_>,
+    table: &NodeTable,
+    bound: &Complex,
+) -> Result<ComplexMesh, ComplexFault>
+    requires table { IsArrayTable complex.now.options.halvings complex.now.points.now table.now }
+    requires there { HasParts complex.now }
+    requires budget { complex.now.options.budget ≤ most_added }
+    requires bound { bound.now ≡ complex_on table.now complex.now }
+    ensures mesh { IfOk result (IsComplexMesh (mesh_options table.now complex.now)
+        table.now.points bound.now) }
+    ensures fault { IfErr result (IsComplexFault complex.now) }
+{
+    let points = copied(alloc, &table.points)?;
+    match mesh_complex(alloc, points, bound, &mesh_options(table, complex)) {
+        Ok(mesh) => Ok(mesh),
+        Err(fault) => Err(ComplexFault::Unmeshed { fault }),
+    }
+}
+
 /// Meshes the complex of arrays on the kept points of a table.
 fn mesh_on(
     alloc: Global,
@@ -104,15 +126,12 @@ fn mesh_on(
     ensures fault { IfErr result (IsComplexFault complex.now) }
 {
     let bound = complex_on(alloc, &table, complex)?;
-    let points = copied(alloc, &table.points)?;
-    match mesh_complex(alloc, points, &bound, &mesh_options(&table, complex)) {
-        Ok(mesh) => Ok(Meshed {
-            table,
-            complex: bound,
-            mesh,
-        }),
-        Err(fault) => Err(ComplexFault::Unmeshed { fault }),
-    }
+    let mesh = mesh_bound(alloc, complex, &table, &bound)?;
+    Ok(Meshed {
+        table,
+        complex: bound,
+        mesh,
+    })
 }
 
 /// The faces on the hull of a mesh and in its facets, from the uses of all faces.
@@ -173,6 +192,27 @@ fn lists_of(
     })
 }
 
+/// The lists of the mesh of a complex of arrays. The complex is only for the contract.
+fn lists_on(
+    alloc: Global,
+    _complex: &ArrayComplex<'_>,
+    made: &Meshed,
+) -> Result<ArrayMesh, NoMemory>
+    requires table { IsArrayTable _complex.now.options.halvings _complex.now.points.now
+        made.now.table }
+    requires there { HasParts _complex.now }
+    requires budget { _complex.now.options.budget ≤ most_added }
+    requires mesh { IsComplexMesh (mesh_options made.now.table _complex.now)
+        made.now.table.points made.now.complex made.now.mesh }
+    requires complex { made.now.complex ≡ complex_on made.now.table _complex.now }
+    ensures { IfOk result (λ lists. IsArrayMesh _complex.now (lists_of lists)) }
+{
+    let uses = uses_of(alloc, &made.mesh.tetrahedra)?;
+    let faces = faces_of(alloc, made, &uses)?;
+    let pairs = pair_uses(alloc, &made.mesh.tetrahedra, &uses)?;
+    lists_of(alloc, &made.table, &made.mesh, &faces, &pairs)
+}
+
 /// The mesh of a complex of arrays. Of equal points the first one counts; a coordinate of the mesh
 /// is a whole number over 2^halvings, where the unit is halved as often as the options allow and
 /// all points fit.
@@ -186,10 +226,7 @@ pub fn mesh_arrays(alloc: Global, complex: &ArrayComplex<'_>) -> Result<ArrayMes
 {
     let table = bound_table(alloc, complex)?;
     let made = mesh_on(alloc, complex, table)?;
-    let uses = uses_of(alloc, &made.mesh.tetrahedra)?;
-    let faces = faces_of(alloc, &made, &uses)?;
-    let pairs = pair_uses(alloc, &made.mesh.tetrahedra, &uses)?;
-    Ok(lists_of(alloc, &made.table, &made.mesh, &faces, &pairs)?)
+    Ok(lists_on(alloc, complex, &made)?)
 }
 
 /// The lengths of the lists of a mesh.
