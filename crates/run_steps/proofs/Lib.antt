@@ -1,5 +1,6 @@
 pub mod Asked
 pub mod Determined
+mod Given
 pub mod Inputs
 pub mod Meshables
 pub mod Named

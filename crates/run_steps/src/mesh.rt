@@ -298,8 +298,8 @@ fn mesh_plc(alloc: Global, options: &Options, bound: Bound) -> Result<Meshed, Me
     ensures writable { IfOk result IsWritable }
 {
     let made = made_of(alloc, options, &bound)?;
-    let added = added_to(alloc, &bound.table, &made.points)?;
-    Ok(with_added(alloc, bound, made, added))
+    let mesh = complex_meshed(alloc, bound, made)?;
+    Ok(mesh)
 }
 
 /// Meshes a complex on its points.

@@ -45,10 +45,10 @@ struct RowOutputs {
 
 /// The files that list faces, where they are asked for: the face file, and those of the whole mesh.
 #[derive(Drop)]
-struct FaceFiles {
-    face: Option<NamedText>,
-    vtk: Option<NamedText>,
-    msh: Option<NamedText>,
+pub(crate) struct FaceFiles {
+    pub(crate) face: Option<NamedText>,
+    pub(crate) vtk: Option<NamedText>,
+    pub(crate) msh: Option<NamedText>,
 }
 
 /// The files that list faces, the neighbor file, where it is asked for, and the number of faces, if

@@ -7,7 +7,9 @@ ghost use Rattle.run_steps.specs.Outputs.{second_texts, AreSecondOutputsOf, IsWr
 ghost use Rattle.run_steps.specs.Outputs.{second_node_file, second_ele_file, second_face_file, second_vtk_file, second_msh_file};
 
 use crate::meshed::Meshed;
-use crate::outputs::{FileAnswer, Outputs, edge_file, first_of, named, neigh_file, report_of};
+use crate::outputs::{
+    FaceFiles, FileAnswer, Outputs, edge_file, first_of, named, neigh_file, report_of,
+};
 use crate::store::{NamedText, Texts};
 use command_words::Options;
 use incidence::uses_of;
@@ -70,15 +72,39 @@ fn texts_of(
     ensures { IfOk result
         (λ texts. texts ≡ second_texts options.now first edge neigh (second_of mesh.now)) }
 {
+    let FaceFiles { face, vtk, msh } = face_files(alloc, options, first, mesh)?;
+    let node = node_file(alloc, options, first, mesh)?;
+    let ele = ele_file(alloc, options, first, mesh)?;
     Ok(Texts {
-        node: node_file(alloc, options, first, mesh)?,
-        ele: ele_file(alloc, options, first, mesh)?,
-        face: face_file(alloc, options, first, mesh)?,
+        node,
+        ele,
+        face,
         edge,
         neigh,
-        vtk: vtk_file(alloc, options, mesh)?,
-        msh: msh_file(alloc, options, mesh)?,
+        vtk,
+        msh,
     })
+}
+
+/// The files of second order that list faces.
+fn face_files(
+    alloc: Global,
+    options: &Options,
+    first: u32,
+    mesh: &SecondMesh<'_>,
+) -> Result<FaceFiles, NoMemory>
+    requires { IsSecond (second_of mesh.now) }
+    ensures face { IfOk result (λ files. files.face
+        ≡ second_face_file options.now first (second_of mesh.now)) }
+    ensures vtk { IfOk result (λ files. files.vtk
+        ≡ second_vtk_file options.now (second_of mesh.now)) }
+    ensures msh { IfOk result (λ files. files.msh
+        ≡ second_msh_file options.now (second_of mesh.now)) }
+{
+    let face = face_file(alloc, options, first, mesh)?;
+    let vtk = vtk_file(alloc, options, mesh)?;
+    let msh = msh_file(alloc, options, mesh)?;
+    Ok(FaceFiles { face, vtk, msh })
 }
 
 /// The points and the midpoints of edges.

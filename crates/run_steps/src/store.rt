@@ -42,15 +42,26 @@ impl Texts {
         ensures { IfOk result (λ list. list.items ≡ in_order self) }
     {
         let mut list = Vec::with_capacity(alloc, 7)?;
-        append(self.node, &mut list)?;
-        append(self.ele, &mut list)?;
-        append(self.face, &mut list)?;
-        append(self.edge, &mut list)?;
-        append(self.neigh, &mut list)?;
-        append(self.vtk, &mut list)?;
+        append_three(self.node, self.ele, self.face, &mut list)?;
+        append_three(self.edge, self.neigh, self.vtk, &mut list)?;
         append(self.msh, &mut list)?;
         Ok(list)
     }
+}
+
+/// Appends three texts, those that are present.
+fn append_three(
+    one: Option<NamedText>,
+    two: Option<NamedText>,
+    three: Option<NamedText>,
+    list: &mut Vec<NamedText>,
+) -> Result<(), NoMemory>
+    ensures { OnOk result (list.new.items ≡ list.old.items ++ given (one ∷ two ∷ three ∷ [])) }
+{
+    append(one, list)?;
+    append(two, list)?;
+    append(three, list)?;
+    Ok(())
 }
 
 /// Appends a text, if it is present.
