@@ -370,6 +370,29 @@ fn is_refilled(
     Ok(smooth)
 }
 
+/// Whether the candidate has each point as a corner and is the refilled list.
+fn is_constrained(
+    alloc: Global,
+    points: &Points,
+    list: &TetList,
+    triangles: &FacetTriangles,
+    change: &Change,
+    likely: &Items<usize>,
+) -> Result<bool, NoMemory>
+    requires few { length points.now < 2 ^ 32 - 1 }
+    requires facets { AreFacetTriangles points.now triangles.now }
+    requires delaunay { IsDelaunayList points.now list.now }
+    requires change { IsChange points.now list.now change.now }
+    requires ascending { AllPairs RowBefore change.now.rows }
+    ensures { IfOk result (λ constrained. IsTrue constrained
+        → IsConstrainedList points.now triangles.now list.now change.now.rows) }
+{
+    if !has_each_point(alloc, points, &change.rows)? {
+        return Ok(false);
+    }
+    is_refilled(alloc, points, list, triangles, change, likely)
+}
+
 /// As `accepted`. For each tetrahedron that only the Delaunay list has, in order, `likely` may have
 /// the place of a facet triangle that enters it.
 pub(crate) fn accepted_by(
@@ -390,10 +413,7 @@ pub(crate) fn accepted_by(
     let Some(change) = change_of(alloc, points, list, triangles, candidate)? else {
         return Ok(None);
     };
-    if !has_each_point(alloc, points, &change.rows)? {
-        return Ok(None);
-    }
-    if is_refilled(alloc, points, list, triangles, &change, likely)? {
+    if is_constrained(alloc, points, list, triangles, &change, likely)? {
         Ok(Some(change.rows))
     } else {
         Ok(None)
