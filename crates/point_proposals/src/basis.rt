@@ -99,11 +99,14 @@ impl Wide {
 
     /// The vector in 64 bits.
     fn narrowed(self) -> Option<Spot> {
-        Some(Spot {
-            x: i64::try_from(self.x).ok()?,
-            y: i64::try_from(self.y).ok()?,
-            z: i64::try_from(self.z).ok()?,
-        })
+        match (
+            i64::try_from(self.x),
+            i64::try_from(self.y),
+            i64::try_from(self.z),
+        ) {
+            (Ok(x), Ok(y), Ok(z)) => Some(Spot { x, y, z }),
+            _ => None,
+        }
     }
 }
 

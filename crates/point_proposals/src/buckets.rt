@@ -1,5 +1,5 @@
 //! Points by the cubes of space in which they lie, to find those near to a place.
-use crate::spot::{Spot, distance, grid_point, spot_of};
+use crate::spot::{Spot, distance, floored, grid_point, spot_of};
 use geo_laws::Points;
 use std::alloc::Global;
 use tet_ports::NoMemory;
@@ -98,11 +98,10 @@ impl Buckets {
 
     /// The cube that has a point.
     fn cube_of(&self, s: Spot) -> Spot {
-        let cube = |x: i64| x.checked_div_euclid(self.side).unwrap_or(0);
         Spot {
-            x: cube(s.x),
-            y: cube(s.y),
-            z: cube(s.z),
+            x: floored(s.x, self.side),
+            y: floored(s.y, self.side),
+            z: floored(s.z, self.side),
         }
     }
 

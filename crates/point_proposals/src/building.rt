@@ -110,6 +110,11 @@ fn run_length(edges: &[FaceEdge]) -> usize {
     edges.len()
 }
 
+/// The facet of the subface that has an edge.
+fn facet_of(subfaces: &[Subface], edge: &FaceEdge) -> Option<u32> {
+    Some(subfaces.get(edge.subface as usize)?.facet)
+}
+
 /// The links of the subfaces while they are made, and the subsegments.
 #[derive(Drop)]
 struct Links {
@@ -151,10 +156,9 @@ impl Links {
     /// Links the subfaces at an edge: exactly two of one facet to each other.
     fn link(&mut self, run: &[FaceEdge], subfaces: &[Subface]) -> Result<(), NoMemory> {
         if run.len() == 2 {
-            let (one, other) = (run[0], run[1]);
-            let facet = |e: &FaceEdge| subfaces.get(e.subface as usize).map(|s| s.facet);
-            if facet(&one) == facet(&other) {
-                self.join(&one, &other);
+            let (one, other) = (&run[0], &run[1]);
+            if facet_of(subfaces, one) == facet_of(subfaces, other) {
+                self.join(one, other);
                 return Ok(());
             }
         }
@@ -215,9 +219,12 @@ impl Mesh {
         if let Some(s) = self.subface_of(a, b, c) {
             return Beyond::Subface(s);
         }
-        match neighbor.and_then(|t| u32::try_from(t).ok()) {
-            Some(t) => Beyond::Tetrahedron(t),
-            None => Beyond::Outside,
+        let Some(t) = neighbor else {
+            return Beyond::Outside;
+        };
+        match u32::try_from(t) {
+            Ok(t) => Beyond::Tetrahedron(t),
+            Err(_) => Beyond::Outside,
         }
     }
 

@@ -23,7 +23,11 @@ fn spheres_of(alloc: Global, mesh: &Mesh) -> Result<Vec<Option<Sphere>>, NoMemor
     let mut spheres = Vec::with_capacity(alloc, mesh.cells.len())?;
     for i in 0..mesh.cells.len() {
         let place = u32::try_from(i).unwrap_or(u32::MAX);
-        spheres.push(mesh.corners(place).and_then(|s| circumsphere(&s)))?;
+        let sphere = match mesh.corners(place) {
+            Some(corners) => circumsphere(&corners),
+            None => None,
+        };
+        spheres.push(sphere)?;
     }
     Ok(spheres)
 }

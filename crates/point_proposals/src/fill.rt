@@ -11,7 +11,7 @@ use crate::building::mark;
 use crate::mesh::{Beyond, Link, Mesh};
 use crate::plane::{Plane, Rung, Sixty};
 use crate::rows::{Hull, Row};
-use crate::spot::{Spot, cube_root, distance};
+use crate::spot::{Spot, cube_root, distance, floored};
 use crate::walk::edge_opposite;
 use std::alloc::Global;
 use tet_ports::NoMemory;
@@ -214,12 +214,8 @@ fn fill_row(
     buckets: &mut Buckets,
 ) -> Result<(), NoMemory> {
     let half = spacing.half;
-    let first = row
-        .low
-        .wrapping_sub(1)
-        .checked_div_euclid(half)
-        .unwrap_or(0);
-    let last = row.high.checked_div_euclid(half).unwrap_or(0);
+    let first = floored(row.low.wrapping_sub(1), half);
+    let last = floored(row.high, half);
     for i in first.saturating_add(1)..last.saturating_add(1) {
         if (i ^ k) & 1 == 0 {
             let p = Spot { x: i, y: j, z: k }.by(half);
@@ -250,8 +246,8 @@ fn fill_layer(
 /// The multiples of a length from before `low` to `high`.
 fn multiples(low: i64, high: i64, length: i64) -> Row {
     Row {
-        low: low.checked_div_euclid(length).unwrap_or(0),
-        high: high.checked_div_euclid(length).unwrap_or(0),
+        low: floored(low, length),
+        high: floored(high, length),
     }
 }
 

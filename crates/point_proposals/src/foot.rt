@@ -87,8 +87,7 @@ impl<'a> Hiding<'a> {
     /// Whether a subface of the facet was found.
     fn has_facet(&self, facet: u32) -> bool {
         for ranked in self.found.as_slice() {
-            let known = self.field.mesh.subfaces.get(ranked.place as usize);
-            if known.map(|s| s.facet) == Some(facet) {
+            if self.field.mesh.facet(ranked.place) == Some(facet) {
                 return true;
             }
         }
@@ -97,13 +96,12 @@ impl<'a> Hiding<'a> {
 
     /// Notes a subface, seen from a corner.
     fn note(&mut self, s: u32, corner: Spot) -> Result<(), NoMemory> {
-        let disc = disc_at(self.field.mesh, s, corner, self.center, self.radius);
-        let Some(disc) = disc else { return Ok(()) };
-        let Some(subface) = self.field.mesh.subfaces.get(s as usize) else {
-            return Ok(());
-        };
-        if disc >= self.least && self.found.len() < MOST && !self.has_facet(subface.facet) {
-            self.found.push(Ranked::new(s, disc))?;
+        let mesh = self.field.mesh;
+        let disc = disc_at(mesh, s, corner, self.center, self.radius);
+        if let (Some(disc), Some(facet)) = (disc, mesh.facet(s)) {
+            if disc >= self.least && self.found.len() < MOST && !self.has_facet(facet) {
+                self.found.push(Ranked::new(s, disc))?;
+            }
         }
         Ok(())
     }

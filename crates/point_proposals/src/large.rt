@@ -206,13 +206,14 @@ fn propose_level(
 
 /// The level of the least bound from `from` on that a tetrahedron is over.
 fn next_level(mesh: &Mesh, from: i128) -> Option<Level> {
-    let mut next: Option<Level> = None;
+    let mut next = None;
+    let mut below = i128::MAX;
     for i in 0..mesh.cells.len() {
         let Ok(place) = u32::try_from(i) else { break };
         let least = mesh.most(place);
-        let is_next = from <= least && next.is_none_or(|level| least < level.least);
-        if is_next && volume_of(mesh, place).unwrap_or(0) > least {
+        if from <= least && least < below && volume_of(mesh, place).unwrap_or(0) > least {
             next = Some(Level { least });
+            below = least;
         }
     }
     next

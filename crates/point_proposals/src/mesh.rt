@@ -1,5 +1,6 @@
 //! Tetrahedra with their neighbors, subfaces and subsegments.
 use crate::plane::Plane;
+use crate::sphere::{Sphere, equator};
 use crate::spot::Spot;
 use geo_laws::{Face, Side, face_of, side_of};
 
@@ -107,8 +108,16 @@ impl Mesh {
 
     /// The places of the corners of a subface.
     pub(crate) fn triangle(&self, s: u32) -> Option<[Spot; 3]> {
-        let Face { a, b, c } = self.subfaces.get(s as usize)?.face;
-        Some([self.spot(a)?, self.spot(b)?, self.spot(c)?])
+        let Face { a, b, c } = *self.faces.get(s as usize)?;
+        match (self.spot(a), self.spot(b), self.spot(c)) {
+            (Some(a), Some(b), Some(c)) => Some([a, b, c]),
+            _ => None,
+        }
+    }
+
+    /// The facet of a subface.
+    pub(crate) fn facet(&self, s: u32) -> Option<u32> {
+        Some(self.subfaces.get(s as usize)?.facet)
     }
 
     /// What is across the edges of a subface.
@@ -123,15 +132,19 @@ impl Mesh {
         Plane::new(self.spot(anchor)?, b.from(a).cross(c.from(a)))
     }
 
+    /// The equatorial sphere of a subface, where its center is near.
+    pub(crate) fn equator(&self, s: u32) -> Option<Sphere> {
+        equator(&self.triangle(s)?)
+    }
+
     /// The ends of a subsegment.
     pub(crate) fn ends(&self, e: u32) -> Option<(Spot, Spot)> {
-        let side = self.subsegments.get(e as usize)?;
-        Some((self.spot(side.a)?, self.spot(side.b)?))
+        self.ends_of(*self.subsegments.get(e as usize)?)
     }
 
     /// The ends of an edge.
     pub(crate) fn ends_of(&self, side: Side) -> Option<(Spot, Spot)> {
-        Some((self.spot(side.a)?, self.spot(side.b)?))
+        self.spot(side.a).zip(self.spot(side.b))
     }
 
     /// Whether a point is the corner of a subface.

@@ -60,7 +60,8 @@ fn other_end(side: Side, v: u32) -> u32 {
 /// The direction of a subsegment from one of its ends.
 fn direction(mesh: &Mesh, e: u32, v: u32) -> Option<Spot> {
     let side = mesh.subsegments.get(e as usize).copied()?;
-    Some(mesh.spot(other_end(side, v))?.from(mesh.spot(v)?))
+    let (from, to) = mesh.spot(v).zip(mesh.spot(other_end(side, v)))?;
+    Some(to.from(from))
 }
 
 /// Sets the segment of a subsegment unless it is known, and reports whether it was set.
@@ -190,8 +191,13 @@ fn part_of(segments: &[Option<u32>], e: u32) -> Option<Part> {
 fn part_at(stars: &Stars, segments: &[Option<u32>], v: u32) -> Option<Part> {
     match stars.subsegments.at(v).first() {
         Some(e) => part_of(segments, *e),
-        None => stars.facets.at(v).first().map(|f| Part::Facet(*f)),
+        None => Some(Part::Facet(*stars.facets.at(v).first()?)),
     }
+}
+
+/// The facet of a subface as a part.
+pub(crate) fn facet_of(mesh: &Mesh, s: u32) -> Option<Part> {
+    Some(Part::Facet(mesh.facet(s)?))
 }
 
 /// The part inside which each point lies.
@@ -233,11 +239,12 @@ impl<'a> Finder<'a> {
     /// Notes that two parts meet at less than 60 degrees.
     fn note(&mut self, one: Option<Part>, other: Option<Part>) -> Result<(), NoMemory> {
         if let (Some(one), Some(other)) = (one, other) {
-            self.meetings.push(Meeting { one, other })?;
-            self.meetings.push(Meeting {
+            let turned = Meeting {
                 one: other,
                 other: one,
-            })?;
+            };
+            self.meetings
+                .extend_from_slice(&[Meeting { one, other }, turned])?;
         }
         Ok(())
     }
@@ -280,12 +287,7 @@ impl<'a> Finder<'a> {
         if is_sharp_to(self.mesh, e, s, v) != Some(true) {
             return Ok(());
         }
-        let facet = self
-            .mesh
-            .subfaces
-            .get(s as usize)
-            .map(|s| Part::Facet(s.facet));
-        self.note(part_of(self.segments, e), facet)
+        self.note(part_of(self.segments, e), facet_of(self.mesh, s))
     }
 
     /// Notes the facets at a corner of the complex to which a subsegment is sharp.
@@ -326,13 +328,7 @@ impl<'a> Finder<'a> {
         let stars = self.stars;
         for t in few(stars.beside.at(e)) {
             if is_sharp_fold(self.mesh, e, s, *t) == Some(true) {
-                let facet = |s: u32| self
-                    .mesh
-                    .subfaces
-                    .get(s as usize)
-                    .map(|s| Part::Facet(s.facet));
-                let (one, other) = (facet(s), facet(*t));
-                self.note(one, other)?;
+                self.note(facet_of(self.mesh, s), facet_of(self.mesh, *t))?;
             }
         }
         Ok(())
@@ -402,10 +398,11 @@ fn normal_from(mesh: &Mesh, side: Side, s: u32) -> Option<Spot> {
 /// Whether two subfaces of different facets meet at less than 60 degrees at a subsegment.
 fn is_sharp_fold(mesh: &Mesh, e: u32, s: u32, t: u32) -> Option<bool> {
     let side = mesh.subsegments.get(e as usize).copied()?;
-    if mesh.subfaces.get(s as usize)?.facet == mesh.subfaces.get(t as usize)?.facet {
+    if mesh.facet(s) == mesh.facet(t) {
         return Some(false);
     }
-    Some(is_within_60(normal_from(mesh, side, s)?, normal_from(mesh, side, t)?))
+    let (one, other) = normal_from(mesh, side, s).zip(normal_from(mesh, side, t))?;
+    Some(is_within_60(one, other))
 }
 
 impl Parts {
@@ -552,7 +549,7 @@ impl Parts {
             one,
             other: Part::Facet(0),
         };
-        let first = self.meetings.as_slice().partition_point(|m| *m < least);
+        let (Ok(first) | Err(first)) = self.meetings.as_slice().binary_search(&least);
         for meeting in self.meetings.get(first..).unwrap_or(&[]) {
             match meeting.other {
                 Part::Facet(other) if meeting.one == one => {

@@ -3,7 +3,7 @@
 use crate::buckets::Answer;
 use crate::field::Field;
 use crate::foot::{foot_of, hiding_subfaces, is_far_from_line, is_far_from_plane};
-use crate::parts::Part;
+use crate::parts::facet_of;
 use crate::plane::Rung;
 use crate::region::{Ranked, Region};
 use crate::slim::{Asked, Lengths};
@@ -164,12 +164,10 @@ impl<'a> Refiner<'a> {
 
     /// Proposes the circumcenter of a subface, or a point of a subsegment in place of it.
     fn try_subface(&mut self, s: u32, lengths: &Lengths) -> Result<Answer, NoMemory> {
-        match self
-            .field
-            .mesh
-            .triangle(s)
-            .and_then(|s| center_in_plane(&s))
-        {
+        let Some(corners) = self.field.mesh.triangle(s) else {
+            return Ok(Answer::Refused);
+        };
+        match center_in_plane(&corners) {
             Some(center) => self.try_near(s, center, lengths),
             None => Ok(Answer::Refused),
         }
@@ -178,12 +176,7 @@ impl<'a> Refiner<'a> {
     /// Makes the region that of a point in a subface.
     fn grow_in_facet(&mut self, at: InFacet) -> Result<(), NoMemory> {
         let field = self.field;
-        let facet = field
-            .mesh
-            .subfaces
-            .get(at.subface as usize)
-            .map(|s| s.facet);
-        let part = facet.map(|f| Part::Facet(f));
+        let part = facet_of(field.mesh, at.subface);
         let seeds = field.beside.at(at.subface);
         self.region.grow(field, at.spot, seeds, part)
     }
@@ -297,15 +290,18 @@ impl<'a> Refiner<'a> {
         }
     }
 
+    /// The circumcenter of a tetrahedron on the lattice, and where the way to it ends.
+    fn center(&self, t: u32) -> Option<(Spot, End)> {
+        let center = center_of(&self.field.mesh.corners(t)?)?;
+        let p = center.on_lattice(self.halvings);
+        Some((p, walk(self.field.mesh, t, p)?))
+    }
+
     /// Proposes the circumcenter of a tetrahedron, or a point of the boundary in place of it.
     fn try_center(&mut self, t: u32, lengths: &Lengths) -> Result<Answer, NoMemory> {
-        let Some(center) = self.field.mesh.corners(t).and_then(|s| center_of(&s)) else {
-            return Ok(Answer::Refused);
-        };
-        let p = center.on_lattice(self.halvings);
-        match walk(self.field.mesh, t, p) {
-            Some(End::Inside(at)) => self.try_inside(at, p, lengths),
-            Some(End::Wall(s)) => {
+        match self.center(t) {
+            Some((p, End::Inside(at))) => self.try_inside(at, p, lengths),
+            Some((_, End::Wall(s))) => {
                 let answer = self.try_hidden(t, lengths)?;
                 if answer != Answer::Refused {
                     return Ok(answer);

@@ -3,7 +3,6 @@
 use crate::field::Field;
 use crate::mesh::{Beyond, Cell};
 use crate::parts::Part;
-use crate::sphere::equator;
 use crate::spot::{Spot, distance, is_in_diametral};
 use std::alloc::Global;
 use tet_ports::NoMemory;
@@ -82,7 +81,11 @@ impl Region {
             return;
         }
         self.nearest = self.nearest.min(square);
-        if part.is_none_or(|part| field.parts.is_by(v, part)) {
+        let is_by = match part {
+            Some(part) => field.parts.is_by(v, part),
+            None => true,
+        };
+        if is_by {
             self.nearest_by = square;
         }
     }
@@ -194,7 +197,7 @@ fn note_encroached_faces(
     };
     for across in cell.across {
         if let Beyond::Subface(s) = across {
-            if let Some(sphere) = field.mesh.triangle(s).and_then(|s| equator(&s)) {
+            if let Some(sphere) = field.mesh.equator(s) {
                 if sphere.has(p) {
                     found.push(Ranked::new(s, sphere.squared))?;
                 }

@@ -31,9 +31,12 @@ impl HalfSpace {
         let Row { low, high } = row;
         let side = times(n.y, y.wrapping_sub(self.corner.y));
         let offset = side.wrapping_add(times(n.z, z.wrapping_sub(self.corner.z)));
-        let quotient = offset.checked_div_euclid(i128::from(n.x).wrapping_abs());
-        let Some(steps) = quotient.and_then(|q| i64::try_from(q).ok()) else {
-            return if offset < 0 { EMPTY } else { row };
+        let uncut = if offset < 0 { EMPTY } else { row };
+        let Some(steps) = offset.checked_div_euclid(i128::from(n.x).wrapping_abs()) else {
+            return uncut;
+        };
+        let Ok(steps) = i64::try_from(steps) else {
+            return uncut;
         };
         if n.x > 0 {
             let first = self.corner.x.wrapping_sub(steps);

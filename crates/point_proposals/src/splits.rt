@@ -3,7 +3,7 @@
 use crate::buckets::{Answer, Buckets};
 use crate::mesh::{Beyond, Link, Mesh, centroid, opposite};
 use crate::plane::Rung;
-use crate::sphere::{circumsphere, equator};
+use crate::sphere::circumsphere;
 use crate::spot::{Spot, distance, is_in_diametral, volume};
 use crate::walk::{End, walk, walk_facet};
 use tet_ports::NoMemory;
@@ -38,7 +38,7 @@ fn encroached_subsegment(mesh: &Mesh, e: u32, p: Spot) -> Option<Sized> {
 
 /// The subface, where the point is in its equatorial sphere.
 fn encroached_subface(mesh: &Mesh, s: u32, p: Spot) -> Option<Sized> {
-    let sphere = equator(&mesh.triangle(s)?)?;
+    let sphere = mesh.equator(s)?;
     if !sphere.has(p) {
         return None;
     }
@@ -139,7 +139,7 @@ impl<'a> Splits<'a> {
             return None;
         }
         let plane = self.mesh.plane(s)?;
-        let sphere = equator(&self.mesh.triangle(s)?)?;
+        let sphere = self.mesh.equator(s)?;
         let p = plane.nearest(sphere.center, self.halvings);
         Some((p, walk_facet(self.mesh, &plane, s, p)?))
     }

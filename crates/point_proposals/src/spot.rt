@@ -42,6 +42,11 @@ pub fn times(x: i64, y: i64) -> i128 {
     i128::from(x).wrapping_mul(i128::from(y))
 }
 
+/// A quotient by a number above 0, rounded down; 0 where the divisor is 0.
+pub(crate) fn floored(n: i64, d: i64) -> i64 {
+    n.checked_div_euclid(d).unwrap_or(0)
+}
+
 /// The whole number nearest to a quotient, 0 where the divisor is 0.
 pub(crate) fn rounded(n: i128, d: i128) -> i128 {
     let half = d.wrapping_abs() / 2;

@@ -20,21 +20,27 @@ fn subsegments_at(alloc: Global, mesh: &Mesh) -> Result<Table, NoMemory> {
     for i in 0..mesh.subsegments.len() {
         let Ok(value) = u32::try_from(i) else { break };
         let Side { a, b } = mesh.subsegments[i];
-        entries.push(Entry { key: a, value })?;
-        entries.push(Entry { key: b, value })?;
+        entries.extend_from_slice(&[Entry { key: a, value }, Entry { key: b, value }])?;
     }
     Table::new(alloc, entries, mesh.spots.len())
+}
+
+/// The entries of a number at the corners of a face.
+fn at_corners(face: &Face, value: u32) -> [Entry; 3] {
+    let Face { a, b, c } = *face;
+    [
+        Entry { key: a, value },
+        Entry { key: b, value },
+        Entry { key: c, value },
+    ]
 }
 
 /// The subfaces at each point.
 fn subfaces_at(alloc: Global, mesh: &Mesh) -> Result<Table, NoMemory> {
     let mut entries = Vec::new(alloc);
-    for i in 0..mesh.subfaces.len() {
+    for i in 0..mesh.faces.len() {
         let Ok(value) = u32::try_from(i) else { break };
-        let Face { a, b, c } = mesh.subfaces[i].face;
-        entries.push(Entry { key: a, value })?;
-        entries.push(Entry { key: b, value })?;
-        entries.push(Entry { key: c, value })?;
+        entries.extend_from_slice(&at_corners(&mesh.faces[i], value))?;
     }
     Table::new(alloc, entries, mesh.spots.len())
 }
@@ -43,11 +49,7 @@ fn subfaces_at(alloc: Global, mesh: &Mesh) -> Result<Table, NoMemory> {
 fn facets_at(alloc: Global, mesh: &Mesh) -> Result<Table, NoMemory> {
     let mut entries = Vec::new(alloc);
     for subface in mesh.subfaces.as_slice() {
-        let Face { a, b, c } = subface.face;
-        let value = subface.facet;
-        entries.push(Entry { key: a, value })?;
-        entries.push(Entry { key: b, value })?;
-        entries.push(Entry { key: c, value })?;
+        entries.extend_from_slice(&at_corners(&subface.face, subface.facet))?;
     }
     Table::new(alloc, entries, mesh.spots.len())
 }
@@ -57,8 +59,7 @@ fn subfaces_beside(alloc: Global, mesh: &Mesh) -> Result<Table, NoMemory> {
     let mut entries = Vec::new(alloc);
     for i in 0..mesh.links.len() {
         let Ok(value) = u32::try_from(i) else { break };
-        let [first, second, third] = mesh.links[i];
-        for link in [first, second, third] {
+        for link in mesh.links[i] {
             if let Link::Subsegment(key) = link {
                 entries.push(Entry { key, value })?;
             }

@@ -69,7 +69,8 @@ impl Taken {
     fn is_locked_at(&self, t: u32, p: Spot, square: u64) -> bool {
         let mut at = self.head(t);
         for _ in 0..MOST {
-            let Some(chained) = at.and_then(|i| self.chained.get(i as usize).copied()) else {
+            let Some(place) = at else { return false };
+            let Some(chained) = self.chained.get(place as usize) else {
                 return false;
             };
             if let Some(kept) = self.kept.get(chained.point as usize) {
