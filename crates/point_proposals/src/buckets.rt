@@ -1,6 +1,6 @@
 //! Points by the cubes of space in which they lie, to find those near to a place.
-use crate::spot::{Spot, distance, floored, grid_point, spot_of};
 use geo_laws::Points;
+use mesh_parts::{Spot, distance, floored, grid_point, spot_of};
 use std::alloc::Global;
 use tet_ports::NoMemory;
 

@@ -7,12 +7,11 @@
 //! of its ends than 71 hundredths of its length: points of subfaces and tetrahedra that are nearer
 //! to others are left out, so that no piece is encroached.
 use crate::buckets::Buckets;
-use crate::building::mark;
-use crate::mesh::{Beyond, Link, Mesh};
-use crate::plane::{Plane, Rung, Sixty};
 use crate::rows::{Hull, Row};
-use crate::spot::{Spot, cube_root, distance, floored};
 use crate::walk::edge_opposite;
+use mesh_parts::{
+    Beyond, Link, Mesh, Plane, Rung, Sixty, Spot, cube_root, distance, floored, mark,
+};
 use std::alloc::Global;
 use tet_ports::NoMemory;
 

@@ -1,9 +1,6 @@
 //! The least length of edges that the input asks for near each point.
-use crate::field::Field;
-use crate::mesh::{Cell, Mesh};
-use crate::parts::Part;
-use crate::spot::distance;
 use geo_laws::Side;
+use mesh_parts::{Cell, Field, Mesh, Part, distance};
 use std::alloc::Global;
 use tet_ports::NoMemory;
 

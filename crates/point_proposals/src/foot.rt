@@ -1,9 +1,6 @@
 //! Feet and distances of points from planes and lines.
-use crate::field::Field;
-use crate::mesh::{Beyond, Mesh};
 use crate::region::{Ranked, Region};
-use crate::sphere::Sphere;
-use crate::spot::{Spot, rounded};
+use mesh_parts::{Beyond, Field, Mesh, Sphere, Spot, rounded};
 use std::alloc::Global;
 use tet_ports::NoMemory;
 

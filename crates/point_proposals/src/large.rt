@@ -2,11 +2,9 @@
 //! its shape.
 use crate::buckets::Buckets;
 use crate::fill::{Far, Spacing, fill};
-use crate::mesh::{Cell, Mesh};
-use crate::sphere::circumsphere;
 use crate::splits::Splits;
-use crate::spot::{cube_root, distance, volume};
 use geo_laws::Points;
+use mesh_parts::{Cell, Mesh, circumsphere, cube_root, distance, volume};
 use std::alloc::Global;
 use tet_ports::NoMemory;
 

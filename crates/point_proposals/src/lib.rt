@@ -15,35 +15,18 @@
 //! than 60 degrees are not asked for.
 #![tactic(auto)]
 
-mod basis;
 mod buckets;
-mod building;
-mod field;
 mod fill;
 mod floors;
 mod foot;
 mod large;
-mod mesh;
-mod parts;
-mod plane;
 mod proposal;
 mod refiner;
 mod region;
 mod rows;
 mod slim;
-mod sphere;
 mod splits;
-mod spot;
-mod stars;
-mod table;
 mod taken;
 mod walk;
 
-pub use building::mesh_of;
-pub use field::Field;
-pub use mesh::{Beyond, Mesh, opposite};
-pub use parts::Part;
-pub use plane::{Plane, Rung};
 pub use proposal::{Aim, propose};
-pub use sphere::{Sphere, circumsphere, equator};
-pub use spot::{Spot, distance, grid_point, times, volume};

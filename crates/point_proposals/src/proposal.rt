@@ -1,12 +1,10 @@
 //! The points that a mesh is to get so that no tetrahedron is slim or large.
-use crate::building::mesh_of;
-use crate::field::Field;
 use crate::large::{VolumeAim, has_far, propose_volumes};
-use crate::mesh::Mesh;
 use crate::refiner::Refiner;
 use crate::slim::asked_of;
 use geo_laws::{FacetTriangles, Points, TetList};
 use incidence::Marks;
+use mesh_parts::{Field, Mesh, mesh_of};
 use std::alloc::Global;
 use tet_ports::NoMemory;
 use tet_shapes::{Ratio, VolumeBounds, mark_at};

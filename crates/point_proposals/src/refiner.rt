@@ -1,16 +1,12 @@
 //! Points that split tetrahedra one by one: circumcenters, and points in subfaces and on
 //! subsegments in place of those that are hidden by them or that would encroach them.
 use crate::buckets::Answer;
-use crate::field::Field;
 use crate::foot::{foot_of, hiding_subfaces, is_far_from_line, is_far_from_plane};
-use crate::parts::facet_of;
-use crate::plane::Rung;
 use crate::region::{Ranked, Region};
 use crate::slim::{Asked, Lengths};
-use crate::sphere::{center_in_plane, center_of};
-use crate::spot::{Spot, grid_point};
 use crate::taken::Taken;
 use crate::walk::{End, walk, walk_facet};
+use mesh_parts::{Field, Rung, Spot, center_in_plane, center_of, facet_of, grid_point};
 use std::alloc::Global;
 use tet_ports::NoMemory;
 

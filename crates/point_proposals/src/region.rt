@@ -1,9 +1,6 @@
 //! The conflict region of a point: the tetrahedra whose circumspheres have it inside, without those
 //! behind subfaces.
-use crate::field::Field;
-use crate::mesh::{Beyond, Cell};
-use crate::parts::Part;
-use crate::spot::{Spot, distance, is_in_diametral};
+use mesh_parts::{Beyond, Cell, Field, Part, Spot, distance, is_in_diametral};
 use std::alloc::Global;
 use tet_ports::NoMemory;
 

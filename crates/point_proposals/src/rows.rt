@@ -1,6 +1,5 @@
 //! The rows of a lattice in a tetrahedron.
-use crate::mesh::opposite;
-use crate::spot::{Spot, times};
+use mesh_parts::{Spot, opposite, times};
 
 /// A half space by a corner of its plane and its normal, which points into it.
 #[derive(Clone, Copy)]

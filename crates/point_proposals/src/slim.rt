@@ -1,9 +1,7 @@
 //! The tetrahedra that are to be split for their shape or their volume.
-use crate::field::Field;
 use crate::floors::{UNKNOWN, floors_of};
-use crate::mesh::Cell;
-use crate::spot::{cube_root, distance, grid_point, volume};
 use geo_laws::Side;
+use mesh_parts::{Cell, Field, cube_root, distance, grid_point, volume};
 use sign_predicates::Corners;
 use std::alloc::Global;
 use tet_ports::NoMemory;

@@ -1,11 +1,11 @@
 //! Points that split one tetrahedron over the bound: its circumcenter, or a point of the boundary
 //! that is in the way or that the circumcenter would encroach, or its centroid.
 use crate::buckets::{Answer, Buckets};
-use crate::mesh::{Beyond, Link, Mesh, centroid, opposite};
-use crate::plane::Rung;
-use crate::sphere::circumsphere;
-use crate::spot::{Spot, distance, is_in_diametral, volume};
 use crate::walk::{End, walk, walk_facet};
+use mesh_parts::{
+    Beyond, Link, Mesh, Rung, Spot, centroid, circumsphere, distance, is_in_diametral, opposite,
+    volume,
+};
 use tet_ports::NoMemory;
 
 /// A subsegment or a subface with the square of its length or of its circumradius.

@@ -1,8 +1,8 @@
 //! The points that were proposed, by the tetrahedra of their conflict regions.
 use crate::buckets::is_less;
 use crate::region::Region;
-use crate::spot::{Spot, distance, grid_point};
 use geo_laws::Points;
+use mesh_parts::{Spot, distance, grid_point};
 use std::alloc::Global;
 use tet_ports::NoMemory;
 

@@ -1,7 +1,5 @@
 //! Straight walks through tetrahedra, and walks through the subfaces of a facet.
-use crate::mesh::{Beyond, Cell, Link, Mesh, centroid, opposite};
-use crate::plane::Plane;
-use crate::spot::{Spot, volume};
+use mesh_parts::{Beyond, Cell, Link, Mesh, Plane, Spot, centroid, opposite, volume};
 
 /// The most tetrahedra or subfaces that a walk goes through.
 const STEPS: u32 = 500;

@@ -5,7 +5,7 @@ use crate::sine::least_sine;
 use crate::site::Site;
 use crate::tally::Tally;
 use geo_laws::{Face, Side, face_of, side_of};
-use point_proposals::{Spot, circumsphere};
+use mesh_parts::{Spot, circumsphere};
 use std::alloc::Global;
 use tet_ports::NoMemory;
 

@@ -1,5 +1,5 @@
 //! Numbers that look random, the same in each run.
-use point_proposals::{Spot, times};
+use mesh_parts::{Spot, times};
 
 /// A generator of numbers.
 #[derive(Clone, Copy)]

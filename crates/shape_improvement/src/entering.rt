@@ -1,6 +1,6 @@
 //! The mesh that is changed in place, from a mesh with its parts.
 use crate::live::{Across, Bounds, Freedom, Live, Vertex};
-use point_proposals::{Beyond, Field, Mesh, Part, Plane};
+use mesh_parts::{Beyond, Field, Mesh, Part, Plane};
 use std::alloc::Global;
 use tet_ports::NoMemory;
 

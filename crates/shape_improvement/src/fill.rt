@@ -3,7 +3,7 @@ use crate::live::{Across, Live, NOTHING, face_at, to};
 use crate::polygon::triangulate;
 use crate::star::{Bordering, Sectored, Star};
 use geo_laws::{Face, face_of};
-use point_proposals::{Sphere, circumsphere, volume};
+use mesh_parts::{Sphere, circumsphere, volume};
 use std::alloc::Global;
 use tet_ports::NoMemory;
 

@@ -3,7 +3,7 @@ use crate::live::{Bounds, is_large, is_slim_exactly};
 use crate::passes::Aim;
 use crate::sine::{RIGHT, aimed_sine, least_sine};
 use geo_laws::{FacetTriangles, Points, TetList};
-use point_proposals::{Beyond, Mesh, mesh_of};
+use mesh_parts::{Beyond, Mesh, mesh_of};
 use std::alloc::Global;
 use tet_ports::NoMemory;
 

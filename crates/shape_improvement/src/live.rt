@@ -1,6 +1,6 @@
 //! A mesh that is changed in place.
 use crate::sine::least_sine;
-use point_proposals::{Plane, Sphere, Spot, circumsphere, distance, grid_point, volume};
+use mesh_parts::{Plane, Sphere, Spot, circumsphere, distance, grid_point, volume};
 use sign_predicates::Corners;
 use std::alloc::Global;
 use tet_ports::NoMemory;

@@ -12,7 +12,7 @@ use crate::tally::{Tally, sine_of, sine_unmarked, tally_of};
 use crate::trials::{Trials, code_of, tet_code};
 use crate::walk::walk;
 use geo_laws::Side;
-use point_proposals::{Rung, Spot, distance, grid_point};
+use mesh_parts::{Rung, Spot, distance, grid_point};
 use std::alloc::Global;
 use tet_ports::NoMemory;
 

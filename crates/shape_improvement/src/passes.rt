@@ -5,7 +5,7 @@ use crate::moving::Mover;
 use crate::sine::aimed_sine;
 use crate::trials::Trials;
 use geo_laws::{FacetTriangles, Points, TetList};
-use point_proposals::{Field, grid_point, mesh_of};
+use mesh_parts::{Field, grid_point, mesh_of};
 use std::alloc::Global;
 use tet_ports::NoMemory;
 use tet_shapes::Ratio;

@@ -1,7 +1,7 @@
 //! Delaunay triangles of the polygon round a point of a facet, without the point.
 use crate::live::Live;
 use crate::star::Star;
-use point_proposals::{Plane, Sphere, equator};
+use mesh_parts::{Plane, Sphere, equator};
 use std::alloc::Global;
 use tet_ports::NoMemory;
 

@@ -1,6 +1,6 @@
 //! The places at which a point is tried.
 use crate::dice::Dice;
-use point_proposals::{Sphere, Spot, distance, times};
+use mesh_parts::{Sphere, Spot, distance, times};
 
 /// How many places are tried for a point.
 pub(crate) const TRIES: u32 = 24;

@@ -1,5 +1,5 @@
 //! The least angle of a tetrahedron by the square of a sine.
-use point_proposals::{Spot, opposite};
+use mesh_parts::{Spot, opposite};
 use tet_shapes::Ratio;
 
 /// The square of the sine of a right angle.

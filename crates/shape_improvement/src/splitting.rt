@@ -6,7 +6,7 @@ use crate::sine::RIGHT;
 use crate::tally::Tally;
 use crate::trials::{Trials, tet_code};
 use geo_laws::{Side, side_of};
-use point_proposals::{Spot, distance, equator};
+use mesh_parts::{Spot, distance, equator};
 use tet_ports::NoMemory;
 
 /// The most tetrahedra at an edge.

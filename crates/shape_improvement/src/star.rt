@@ -1,7 +1,7 @@
 //! The star of a point, and the faces in facets at it.
 use crate::live::{Cell, Freedom, Live, face_at};
 use geo_laws::{Side, side_of};
-use point_proposals::volume;
+use mesh_parts::volume;
 use std::alloc::Global;
 use tet_ports::NoMemory;
 

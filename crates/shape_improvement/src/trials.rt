@@ -1,5 +1,5 @@
 //! How often tetrahedra and stars of points were tried in vain, by the places of their corners.
-use point_proposals::Spot;
+use mesh_parts::Spot;
 use std::alloc::Global;
 use std::collections::HashMap;
 use tet_ports::NoMemory;

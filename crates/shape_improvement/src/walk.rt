@@ -1,6 +1,6 @@
 //! Ways through a mesh that is changed in place.
 use crate::live::{Live, face_at};
-use point_proposals::{Spot, volume};
+use mesh_parts::{Spot, volume};
 
 /// The most tetrahedra that a walk goes through.
 const STEPS: u32 = 60;

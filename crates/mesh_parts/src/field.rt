@@ -14,7 +14,7 @@ pub struct Field<'a> {
     pub mesh: &'a Mesh,
     pub(crate) spheres: Vec<Option<Sphere>>,
     pub parts: Parts,
-    pub(crate) around: Table,
+    pub around: Table,
     pub beside: Table,
 }
 
@@ -91,12 +91,12 @@ impl<'a> Field<'a> {
     }
 
     /// The circumsphere of a tetrahedron, where its center is near.
-    pub(crate) fn sphere(&self, t: u32) -> Option<Sphere> {
+    pub fn sphere(&self, t: u32) -> Option<Sphere> {
         self.spheres.get(t as usize).copied().flatten()
     }
 
     /// Whether a point is in the circumsphere of a tetrahedron.
-    pub(crate) fn has(&self, t: u32, p: Spot) -> bool {
+    pub fn has(&self, t: u32, p: Spot) -> bool {
         match self.sphere(t) {
             Some(sphere) => sphere.has(p),
             None => false,

@@ -100,7 +100,7 @@ pub fn circumsphere(corners: &[Spot; 4]) -> Option<Sphere> {
 
 /// The center of the circumsphere of a positive tetrahedron, or, where it is not near, a far point
 /// in its direction.
-pub(crate) fn center_of(corners: &[Spot; 4]) -> Option<Spot> {
+pub fn center_of(corners: &[Spot; 4]) -> Option<Spot> {
     let Quotient { x, y, z, divisor } = to_center(corners)?;
     let greatest = x.wrapping_abs().max(y.wrapping_abs()).max(z.wrapping_abs());
     let least = greatest / (1 << 30);
@@ -137,7 +137,7 @@ pub fn equator(corners: &[Spot; 3]) -> Option<Sphere> {
 
 /// The center of the smallest sphere through the corners of a triangle, or, where it is not near, a
 /// far point in its direction: from `a` along `|C|^2 (|B|^2 - B C) B + |B|^2 (|C|^2 - B C) C`.
-pub(crate) fn center_in_plane(corners: &[Spot; 3]) -> Option<Spot> {
+pub fn center_in_plane(corners: &[Spot; 3]) -> Option<Spot> {
     if let Some(sphere) = equator(corners) {
         return Some(sphere.center);
     }

@@ -49,7 +49,7 @@ fn minor(u: Flat, v: Flat) -> i128 {
 /// and a reduced basis of the whole vectors in the plane.
 #[derive(Clone, Copy)]
 pub struct Plane {
-    pub(crate) corner: Spot,
+    pub corner: Spot,
     normal: Spot,
     axis: Axis,
     first: Spot,
@@ -58,9 +58,9 @@ pub struct Plane {
 
 /// Two vectors of a plane, at 60 degrees.
 #[derive(Clone, Copy)]
-pub(crate) struct Sixty {
-    pub(crate) u: Spot,
-    pub(crate) v: Spot,
+pub struct Sixty {
+    pub u: Spot,
+    pub v: Spot,
 }
 
 /// The vector or its negative, so that its first coordinate that is not 0 is above 0.
@@ -128,7 +128,7 @@ impl Plane {
     }
 
     /// Two vectors of this length at 60 degrees, the first along the shortest lattice vector.
-    pub(crate) fn triangular(&self, length: i64) -> Sixty {
+    pub fn triangular(&self, length: i64) -> Sixty {
         let first = self.first.over_power(self.first.bits_above(30));
         let u = with_length(first, length);
         let w = with_length(self.normal.cross(first), length);
@@ -147,7 +147,7 @@ impl Plane {
     }
 
     /// How often the two vectors lead from the corner to a point of the plane, rounded down.
-    pub(crate) fn steps_to(&self, p: Spot, along: &Sixty) -> Option<(i64, i64)> {
+    pub fn steps_to(&self, p: Spot, along: &Sixty) -> Option<(i64, i64)> {
         let w = self.axis.drawn(p.from(self.corner));
         let (u, v) = (self.axis.drawn(along.u), self.axis.drawn(along.v));
         let whole = minor(u, v);
@@ -157,7 +157,7 @@ impl Plane {
     }
 
     /// How many parallelograms with these sides have twice the area of a triangle, rounded down.
-    pub(crate) fn parallelograms(&self, s: &[Spot; 3], along: &Sixty) -> i128 {
+    pub fn parallelograms(&self, s: &[Spot; 3], along: &Sixty) -> i128 {
         let [a, b, c] = *s;
         let whole = minor(self.axis.drawn(along.u), self.axis.drawn(along.v));
         let quotient = self.side(a, b, c).checked_div(whole);
@@ -192,7 +192,7 @@ impl Rung {
     }
 
     /// The most pieces into which the segment may be split.
-    pub(crate) fn most_pieces(&self) -> u64 {
+    pub fn most_pieces(&self) -> u64 {
         self.count / FEWEST
     }
 
@@ -203,7 +203,7 @@ impl Rung {
     }
 
     /// The lattice point nearest to the middle, where there are enough of them.
-    pub(crate) fn middle(&self) -> Option<Spot> {
+    pub fn middle(&self) -> Option<Spot> {
         if self.most_pieces() < 2 {
             return None;
         }
@@ -212,7 +212,7 @@ impl Rung {
 
     /// The lattice point at the power of two nearest to half the length from the first end, or from
     /// the second one, where there are enough of them.
-    pub(crate) fn shell(&self, is_from_second: bool) -> Option<Spot> {
+    pub fn shell(&self, is_from_second: bool) -> Option<Spot> {
         if self.most_pieces() < 2 {
             return None;
         }

@@ -16,7 +16,7 @@ pub struct Spot {
 }
 
 /// The point with its coordinates as they are.
-pub(crate) fn spot_of(p: GridPoint) -> Spot {
+pub fn spot_of(p: GridPoint) -> Spot {
     Spot {
         x: i64::from(p.x),
         y: i64::from(p.y),
@@ -43,12 +43,12 @@ pub fn times(x: i64, y: i64) -> i128 {
 }
 
 /// A quotient by a number above 0, rounded down; 0 where the divisor is 0.
-pub(crate) fn floored(n: i64, d: i64) -> i64 {
+pub fn floored(n: i64, d: i64) -> i64 {
     n.checked_div_euclid(d).unwrap_or(0)
 }
 
 /// The whole number nearest to a quotient, 0 where the divisor is 0.
-pub(crate) fn rounded(n: i128, d: i128) -> i128 {
+pub fn rounded(n: i128, d: i128) -> i128 {
     let half = d.wrapping_abs() / 2;
     let raised = if n < 0 {
         n.wrapping_sub(half)
@@ -84,7 +84,7 @@ impl Spot {
     }
 
     /// A multiple of the vector.
-    pub(crate) fn by(self, k: i64) -> Spot {
+    pub fn by(self, k: i64) -> Spot {
         Spot {
             x: self.x.wrapping_mul(k),
             y: self.y.wrapping_mul(k),
@@ -111,7 +111,7 @@ impl Spot {
     }
 
     /// The scalar product.
-    pub(crate) fn dot(self, o: Spot) -> i128 {
+    pub fn dot(self, o: Spot) -> i128 {
         let plane = times(self.x, o.x).wrapping_add(times(self.y, o.y));
         plane.wrapping_add(times(self.z, o.z))
     }
@@ -166,7 +166,7 @@ pub fn volume(a: Spot, b: Spot, c: Spot, d: Spot) -> i128 {
 }
 
 /// Whether a point is inside the sphere that has the segment as its diameter.
-pub(crate) fn is_in_diametral(a: Spot, b: Spot, p: Spot) -> bool {
+pub fn is_in_diametral(a: Spot, b: Spot, p: Spot) -> bool {
     a.from(p).dot(b.from(p)) < 0
 }
 
@@ -189,7 +189,7 @@ pub(crate) fn is_within_75(u: Spot, v: Spot) -> bool {
 }
 
 /// The cube root, rounded down, of a number below `2^96`.
-pub(crate) fn cube_root(v: i128) -> i64 {
+pub fn cube_root(v: i128) -> i64 {
     let mut root = 0_i64;
     let mut bit = 1_i64 << 31;
     for _ in 0..32 {

@@ -21,7 +21,7 @@ pub struct Cell {
 
 impl Cell {
     /// The edges.
-    pub(crate) fn edges(&self) -> [Side; 6] {
+    pub fn edges(&self) -> [Side; 6] {
         let [a, b, c, d] = self.corners;
         [
             side_of(a, b),
@@ -36,7 +36,7 @@ impl Cell {
 
 /// What is across an edge of a subface: a subface of the same facet, or none beyond a subsegment.
 #[derive(Clone, Copy)]
-pub(crate) enum Link {
+pub enum Link {
     Subface(u32),
     Subsegment(u32),
     Nothing,
@@ -61,9 +61,9 @@ pub struct Mesh {
     pub subfaces: Vec<Subface>,
     pub(crate) faces: Vec<Face>,
     pub(crate) links: Vec<[Link; 3]>,
-    pub(crate) subsegments: Vec<Side>,
+    pub subsegments: Vec<Side>,
     pub(crate) on_boundary: Vec<bool>,
-    pub(crate) mosts: Vec<i128>,
+    pub mosts: Vec<i128>,
 }
 
 /// The corners of the face opposite a corner of a positive tetrahedron, so that the corner is on
@@ -79,14 +79,14 @@ pub fn opposite(s: &[Spot; 4], k: usize) -> [Spot; 3] {
 }
 
 /// A quarter of the sum of the corners.
-pub(crate) fn centroid(s: &[Spot; 4]) -> Spot {
+pub fn centroid(s: &[Spot; 4]) -> Spot {
     let [a, b, c, d] = *s;
     a.plus(b).plus(c).plus(d).over_power(2)
 }
 
 impl Mesh {
     /// The place of a point.
-    pub(crate) fn spot(&self, v: u32) -> Option<Spot> {
+    pub fn spot(&self, v: u32) -> Option<Spot> {
         self.spots.get(v as usize).copied()
     }
 
@@ -96,7 +96,7 @@ impl Mesh {
     }
 
     /// The greatest six-fold volume that a tetrahedron is to have.
-    pub(crate) fn most(&self, t: u32) -> i128 {
+    pub fn most(&self, t: u32) -> i128 {
         self.mosts.get(t as usize).copied().unwrap_or(i128::MAX)
     }
 
@@ -107,7 +107,7 @@ impl Mesh {
     }
 
     /// The places of the corners of a subface.
-    pub(crate) fn triangle(&self, s: u32) -> Option<[Spot; 3]> {
+    pub fn triangle(&self, s: u32) -> Option<[Spot; 3]> {
         let Face { a, b, c } = *self.faces.get(s as usize)?;
         match (self.spot(a), self.spot(b), self.spot(c)) {
             (Some(a), Some(b), Some(c)) => Some([a, b, c]),
@@ -116,12 +116,12 @@ impl Mesh {
     }
 
     /// The facet of a subface.
-    pub(crate) fn facet(&self, s: u32) -> Option<u32> {
+    pub fn facet(&self, s: u32) -> Option<u32> {
         Some(self.subfaces.get(s as usize)?.facet)
     }
 
     /// What is across the edges of a subface.
-    pub(crate) fn links(&self, s: u32) -> Option<[Link; 3]> {
+    pub fn links(&self, s: u32) -> Option<[Link; 3]> {
         self.links.get(s as usize).copied()
     }
 
@@ -133,17 +133,17 @@ impl Mesh {
     }
 
     /// The equatorial sphere of a subface, where its center is near.
-    pub(crate) fn equator(&self, s: u32) -> Option<Sphere> {
+    pub fn equator(&self, s: u32) -> Option<Sphere> {
         equator(&self.triangle(s)?)
     }
 
     /// The ends of a subsegment.
-    pub(crate) fn ends(&self, e: u32) -> Option<(Spot, Spot)> {
+    pub fn ends(&self, e: u32) -> Option<(Spot, Spot)> {
         self.ends_of(*self.subsegments.get(e as usize)?)
     }
 
     /// The ends of an edge.
-    pub(crate) fn ends_of(&self, side: Side) -> Option<(Spot, Spot)> {
+    pub fn ends_of(&self, side: Side) -> Option<(Spot, Spot)> {
         self.spot(side.a).zip(self.spot(side.b))
     }
 
@@ -162,7 +162,7 @@ impl Mesh {
     }
 
     /// The subsegment that is this edge.
-    pub(crate) fn subsegment_of(&self, side: Side) -> Option<u32> {
+    pub fn subsegment_of(&self, side: Side) -> Option<u32> {
         if !self.is_on_boundary(side.a) || !self.is_on_boundary(side.b) {
             return None;
         }

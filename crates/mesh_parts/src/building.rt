@@ -197,7 +197,7 @@ fn marked(alloc: Global, points: usize, faces: &[Face]) -> Result<Vec<bool>, NoM
 }
 
 /// Sets a mark.
-pub(crate) fn mark(marks: &mut [bool], place: u32) {
+pub fn mark(marks: &mut [bool], place: u32) {
     let place = place as usize;
     if place < marks.len() {
         marks[place] = true;

@@ -27,9 +27,9 @@ struct Meeting {
 /// Which ends of a subsegment are corners of the complex with another subsegment at less than 75
 /// degrees.
 #[derive(Clone, Copy)]
-pub(crate) struct SharpEnds {
-    pub(crate) first: bool,
-    pub(crate) second: bool,
+pub struct SharpEnds {
+    pub first: bool,
+    pub second: bool,
 }
 
 /// The segment of each subsegment, with its sharp ends; the part inside which each point lies; and
@@ -196,7 +196,7 @@ fn part_at(stars: &Stars, segments: &[Option<u32>], v: u32) -> Option<Part> {
 }
 
 /// The facet of a subface as a part.
-pub(crate) fn facet_of(mesh: &Mesh, s: u32) -> Option<Part> {
+pub fn facet_of(mesh: &Mesh, s: u32) -> Option<Part> {
     Some(Part::Facet(mesh.facet(s)?))
 }
 
@@ -456,12 +456,12 @@ impl Parts {
     }
 
     /// The segment of a subsegment.
-    pub(crate) fn segment(&self, e: u32) -> Option<Part> {
+    pub fn segment(&self, e: u32) -> Option<Part> {
         part_of(self.segments.as_slice(), e)
     }
 
     /// Which ends of a subsegment are sharp.
-    pub(crate) fn ends(&self, e: u32) -> SharpEnds {
+    pub fn ends(&self, e: u32) -> SharpEnds {
         let none = SharpEnds {
             first: false,
             second: false,
@@ -470,7 +470,7 @@ impl Parts {
     }
 
     /// Whether two parts meet at less than 60 degrees.
-    pub(crate) fn meet(&self, one: Option<Part>, other: Option<Part>) -> bool {
+    pub fn meet(&self, one: Option<Part>, other: Option<Part>) -> bool {
         match (one, other) {
             (Some(one), Some(other)) => {
                 let meeting = Meeting { one, other };
@@ -489,7 +489,7 @@ impl Parts {
     }
 
     /// The corners of the complex on a segment or in a facet.
-    pub(crate) fn corners_of(&self, part: Part) -> &[u32] {
+    pub fn corners_of(&self, part: Part) -> &[u32] {
         match part {
             Part::Segment(s) => self.corners.on_segment.at(s),
             Part::Facet(f) => self.corners.in_facet.at(f),
@@ -517,7 +517,7 @@ impl Parts {
     }
 
     /// Whether a point is on a part, or inside of the complex, or on a part that touches it.
-    pub(crate) fn is_by(&self, v: u32, part: Part) -> bool {
+    pub fn is_by(&self, v: u32, part: Part) -> bool {
         if (v as usize) < self.corners.own {
             return self.has(part, v);
         }
