@@ -111,7 +111,10 @@ impl Cavity {
     /// Notes a face of the cavity, and reports whether the place is on its inner side.
     fn note(&mut self, live: &Live, p: Spot, site: &Site, wall: Wall) -> Result<bool, NoMemory> {
         let Across { cell, facet } = wall.across;
-        let is_marked = cell.is_some_and(|n| live.is_marked(n));
+        let is_marked = match cell {
+            Some(n) => live.is_marked(n),
+            None => false,
+        };
         if let Some(facet) = facet {
             if site.facets.contains(&facet) {
                 let [a, b, c] = wall.face;

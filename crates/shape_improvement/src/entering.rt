@@ -23,7 +23,7 @@ fn across_of(field: &Field, t: u32, beyond: Beyond) -> Across {
         },
         Beyond::Subface(s) => Across {
             cell: other_beside(field, s, t),
-            facet: field.mesh.subfaces.get(s as usize).map(|s| s.facet),
+            facet: field.mesh.facet(s),
         },
         Beyond::Outside => Across {
             cell: None,

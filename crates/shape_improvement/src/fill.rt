@@ -165,12 +165,17 @@ impl Fill {
         Ok(true)
     }
 
+    /// Where the corners for a sector begin among those for all.
+    fn first_in(&self, sector: u32) -> usize {
+        let least = Candidate { sector, corner: 0 };
+        let (Ok(first) | Err(first)) = self.candidates.as_slice().binary_search(&least);
+        first
+    }
+
     /// The corners that tetrahedra of a sector may have.
     fn candidates_in(&self, sector: u32) -> &[Candidate] {
-        let all = self.candidates.as_slice();
-        let first = all.partition_point(|c| c.sector < sector);
-        let last = all.partition_point(|c| c.sector <= sector);
-        all.get(first..last).unwrap_or(&[])
+        let (first, last) = (self.first_in(sector), self.first_in(sector.wrapping_add(1)));
+        self.candidates.get(first..last).unwrap_or(&[])
     }
 
     /// The corner that makes a Delaunay tetrahedron with a face.
@@ -260,9 +265,10 @@ impl Fill {
 
     /// The six-fold volume of the tetrahedron that was made last.
     fn last_volume(&self, live: &Live) -> i128 {
-        let cell = self.cells.last().and_then(|t| live.cell(*t));
-        cell.and_then(|cell| live.volume(&cell.corners))
-            .unwrap_or(0)
+        match self.cells.last() {
+            Some(t) => live.volume(*t),
+            None => 0,
+        }
     }
 
     /// Makes the tetrahedra, and reports whether no face is left and they fill the volume. It ends
@@ -345,9 +351,7 @@ impl Fill {
 fn volume_of(live: &Live, cells: &[u32]) -> i128 {
     let mut sum = 0_i128;
     for t in cells {
-        if let Some(cell) = live.cell(*t) {
-            sum = sum.wrapping_add(live.volume(&cell.corners).unwrap_or(0));
-        }
+        sum = sum.wrapping_add(live.volume(*t));
     }
     sum
 }

@@ -9,7 +9,7 @@ use tet_ports::NoMemory;
 
 /// How many tetrahedra of a mesh are over the bounds, how many have a dihedral angle below the aim,
 /// and the least square of the sine of a dihedral angle. Angles between subfaces are left out.
-#[derive(Clone, Copy, Debug)]
+#[derive(Clone, Copy)]
 pub struct Grade {
     /// The square of the sine that is aimed at.
     aim: u64,

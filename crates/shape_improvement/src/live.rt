@@ -45,7 +45,7 @@ pub(crate) struct Cell {
 }
 
 /// Where a point may be moved.
-#[derive(Clone, Copy, PartialEq, Eq)]
+#[derive(Clone, Copy)]
 pub(crate) enum Freedom {
     Nowhere,
     Anywhere,
@@ -238,10 +238,18 @@ impl Live {
         Some(volume(a, b, c, p))
     }
 
-    /// Six times the volume of a tetrahedron.
-    pub(crate) fn volume(&self, corners: &[u32; 4]) -> Option<i128> {
-        let [a, b, c, d] = self.spots(corners)?;
-        Some(volume(a, b, c, d))
+    /// The places of the corners of a tetrahedron.
+    pub(crate) fn corners(&self, t: u32) -> Option<[Spot; 4]> {
+        self.spots(&self.cell(t)?.corners)
+    }
+
+    /// Six times the volume of a tetrahedron, 0 where there is none.
+    pub(crate) fn volume(&self, t: u32) -> i128 {
+        let Some(corners) = self.corners(t) else {
+            return 0;
+        };
+        let [a, b, c, d] = corners;
+        volume(a, b, c, d)
     }
 
     /// Where a point may be moved.
@@ -257,9 +265,19 @@ impl Live {
         self.planes.get(facet as usize)?.as_ref()
     }
 
+    /// A tetrahedron that has a point as a corner.
+    pub(crate) fn cell_at(&self, v: u32) -> Option<u32> {
+        self.vertices.get(v as usize)?.cell
+    }
+
+    /// The circumsphere of a tetrahedron.
+    pub(crate) fn sphere(&self, t: u32) -> Option<Sphere> {
+        self.cell(t)?.sphere
+    }
+
     /// Whether a point is in the circumsphere of a tetrahedron.
     pub(crate) fn has(&self, t: u32, p: Spot) -> bool {
-        match self.cell(t).and_then(|cell| cell.sphere) {
+        match self.sphere(t) {
             Some(sphere) => sphere.has(p),
             None => false,
         }

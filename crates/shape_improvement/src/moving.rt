@@ -315,11 +315,8 @@ impl Mover {
     fn mean_of(&self, from: Spot) -> Spot {
         let mut mean = Mean::new();
         for t in self.star.cells.as_slice() {
-            if let Some(cell) = self.live.cell(*t) {
-                let volume = self.live.volume(&cell.corners).unwrap_or(0);
-                if let Some(sphere) = cell.sphere {
-                    mean.add(sphere.center.from(from), volume / 4096);
-                }
+            if let Some(sphere) = self.live.sphere(*t) {
+                mean.add(sphere.center.from(from), self.live.volume(*t) / 4096);
             }
         }
         from.plus(mean.value())
@@ -351,7 +348,7 @@ impl Mover {
     /// Opens the star of a point, and reports whether the point may be moved.
     fn open_star(&mut self, v: u32) -> Result<bool, NoMemory> {
         let freedom = self.live.freedom(v);
-        if freedom == Freedom::Nowhere || !self.star.open(&mut self.live, v)? {
+        if matches!(freedom, Freedom::Nowhere) || !self.star.open(&mut self.live, v)? {
             return Ok(false);
         }
         self.site.set(&self.star, freedom)
@@ -359,13 +356,14 @@ impl Mover {
 
     /// The hash of a point and its star.
     fn star_code(&self, v: u32) -> u64 {
-        let mut code = self.live.spot(v).map_or(0, |p| code_of(p));
+        let mut code = match self.live.spot(v) {
+            Some(p) => code_of(p),
+            None => 0,
+        };
         for t in self.star.cells.as_slice() {
-            let corners = self
-                .live
-                .cell(*t)
-                .and_then(|cell| self.live.spots(&cell.corners));
-            code = code.wrapping_add(corners.map_or(0, |corners| tet_code(&corners)));
+            if let Some(corners) = self.live.corners(*t) {
+                code = code.wrapping_add(tet_code(&corners));
+            }
         }
         code
     }

@@ -17,7 +17,7 @@ const PASSES: u32 = 10;
 const TRIALS: u8 = 2;
 
 /// What an improvement is asked for.
-#[derive(Clone, Copy, Debug)]
+#[derive(Clone, Copy)]
 pub struct Aim<'a> {
     /// For each tetrahedron six times its greatest volume, in cubes of grid units; empty where
     /// volumes are not bounded.

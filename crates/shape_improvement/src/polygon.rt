@@ -128,14 +128,8 @@ fn divide(
             ) {
                 triangles.push([*a, *b, *c])?;
             }
-            parts.push(Part {
-                first: part.first,
-                last: k,
-            })?;
-            parts.push(Part {
-                first: k,
-                last: part.last,
-            })?;
+            let (first, last) = (part.first, part.last);
+            parts.extend_from_slice(&[Part { first, last: k }, Part { first: k, last }])?;
         }
     }
     Ok(false)

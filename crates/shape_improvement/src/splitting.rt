@@ -6,7 +6,7 @@ use crate::sine::RIGHT;
 use crate::tally::Tally;
 use crate::trials::{Trials, tet_code};
 use geo_laws::{Side, side_of};
-use mesh_parts::{Spot, distance, equator};
+use mesh_parts::{Sphere, Spot, distance, equator};
 use tet_ports::NoMemory;
 
 /// The most tetrahedra at an edge.
@@ -85,17 +85,13 @@ impl Mover {
         self.settle(v, p)
     }
 
-    /// Puts a new point near to a center, within a reach.
-    fn split_near(
-        &mut self,
-        target: &Target,
-        center: Spot,
-        reach: i64,
-        sine: u64,
-    ) -> Result<bool, NoMemory> {
+    /// Puts a new point near to the center of a sphere, within three quarters of its radius.
+    fn split_near(&mut self, target: &Target, sphere: Sphere, sine: u64) -> Result<bool, NoMemory> {
+        let center = sphere.center;
+        let most = (radius_of(sphere) / 4).wrapping_mul(3);
         let mut best = self.much_over(sine, center);
         for k in 0..TRIES {
-            let reach = if k == 0 { 0 } else { reach };
+            let reach = if k == 0 { 0 } else { most };
             let wish = self.dice.near(center, reach);
             if let Some(p) = self.place_near(target.freedom, wish) {
                 self.attempt_new(target, p, &mut best)?;
@@ -118,8 +114,7 @@ impl Mover {
             freedom: Freedom::Anywhere,
             square: square / 3,
         };
-        let reach = radius_of(sphere) / 4;
-        self.split_near(&target, sphere.center, reach.wrapping_mul(3), cell.sine)
+        self.split_near(&target, sphere, cell.sine)
     }
 
     /// Puts a new point near to the circumcenter of a face in a facet.
@@ -131,7 +126,10 @@ impl Mover {
         facet: u32,
         square: u64,
     ) -> Result<bool, NoMemory> {
-        let Some(sphere) = self.live.triangle(&face).and_then(|s| equator(&s)) else {
+        let Some(corners) = self.live.triangle(&face) else {
+            return Ok(false);
+        };
+        let Some(sphere) = equator(&corners) else {
             return Ok(false);
         };
         self.site.clear();
@@ -141,8 +139,7 @@ impl Mover {
             freedom: Freedom::InFacet(facet),
             square: square / 10,
         };
-        let reach = radius_of(sphere) / 4;
-        self.split_near(&target, sphere.center, reach.wrapping_mul(3), cell.sine)
+        self.split_near(&target, sphere, cell.sine)
     }
 
     /// Puts a new point near to the circumcenter of one of the faces in facets.

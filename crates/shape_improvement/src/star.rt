@@ -101,7 +101,7 @@ impl Star {
         self.cells.clear();
         self.waiting.clear();
         live.unmark();
-        let Some(seed) = live.vertices.get(v as usize).and_then(|vertex| vertex.cell) else {
+        let Some(seed) = live.cell_at(v) else {
             return Ok(false);
         };
         self.waiting.push(seed)?;
@@ -165,7 +165,7 @@ impl Star {
     fn note_all(&mut self, live: &Live, v: u32) -> Result<bool, NoMemory> {
         self.opposites.clear();
         self.borderings.clear();
-        if live.freedom(v) == Freedom::Anywhere {
+        if matches!(live.freedom(v), Freedom::Anywhere) {
             return Ok(true);
         }
         for i in 0..self.sectored.len() {
