@@ -405,41 +405,73 @@ fn is_sharp_fold(mesh: &Mesh, e: u32, s: u32, t: u32) -> Option<bool> {
     Some(is_within_60(one, other))
 }
 
+/// The pairs of parts that meet at less than 60 degrees, in both orders, and the sharp ends of each
+/// subsegment.
+#[derive(Drop)]
+struct SharpParts {
+    meetings: Vec<Meeting>,
+    ends: Vec<SharpEnds>,
+}
+
+/// The parts that meet at a sharp angle.
+fn sharp_parts(
+    alloc: Global,
+    mesh: &Mesh,
+    stars: &Stars,
+    segments: &[Option<u32>],
+    own: usize,
+) -> Result<SharpParts, NoMemory> {
+    let none = SharpEnds {
+        first: false,
+        second: false,
+    };
+    let mut ends = Vec::new(alloc);
+    ends.resize(mesh.subsegments.len(), none)?;
+    let mut finder = Finder {
+        mesh,
+        stars,
+        segments,
+        meetings: Vec::new(alloc),
+        ends,
+    };
+    finder.note_corners(own)?;
+    finder.note_folds()?;
+    let Finder {
+        mut meetings,
+        ends,
+        ..
+    } = finder;
+    meetings.sort()?;
+    meetings.dedup();
+    Ok(SharpParts { meetings, ends })
+}
+
+impl Corners {
+    /// The corners of the complex on the segments and in the facets.
+    fn new(
+        alloc: Global,
+        mesh: &Mesh,
+        stars: &Stars,
+        segments: &[Option<u32>],
+        own: usize,
+    ) -> Result<Self, NoMemory> {
+        Ok(Corners {
+            own,
+            on_segment: corners_on_segments(alloc, mesh, segments, own)?,
+            in_facet: corners_in_facets(alloc, mesh, stars, own)?,
+        })
+    }
+}
+
 impl Parts {
     /// The parts of a mesh; the first points are corners of the complex.
     pub(crate) fn new(alloc: Global, mesh: &Mesh, own: usize) -> Result<Self, NoMemory> {
         let stars = Stars::new(alloc, mesh)?;
         let segments = segments_of(alloc, mesh, &stars, own)?;
         let parts = parts_of(alloc, mesh, &stars, segments.as_slice(), own)?;
-        let mut ends = Vec::new(alloc);
-        ends.resize(
-            mesh.subsegments.len(),
-            SharpEnds {
-                first: false,
-                second: false,
-            },
-        )?;
-        let mut finder = Finder {
-            mesh,
-            stars: &stars,
-            segments: segments.as_slice(),
-            meetings: Vec::new(alloc),
-            ends,
-        };
-        finder.note_corners(own)?;
-        finder.note_folds()?;
-        let Finder {
-            mut meetings,
-            ends,
-            ..
-        } = finder;
-        meetings.sort()?;
-        meetings.dedup();
-        let corners = Corners {
-            own,
-            on_segment: corners_on_segments(alloc, mesh, segments.as_slice(), own)?,
-            in_facet: corners_in_facets(alloc, mesh, &stars, own)?,
-        };
+        let corners = Corners::new(alloc, mesh, &stars, segments.as_slice(), own)?;
+        let found = sharp_parts(alloc, mesh, &stars, segments.as_slice(), own)?;
+        let SharpParts { meetings, ends } = found;
         Ok(Parts {
             segments,
             ends,
