@@ -1,7 +1,7 @@
 //! The points that a mesh is to get so that no tetrahedron is slim or large.
 use crate::large::{VolumeAim, has_far, propose_volumes};
 use crate::refiner::Refiner;
-use crate::slim::asked_of;
+use crate::slim::{Asked, asked_of};
 use geo_laws::{FacetTriangles, Points, TetList};
 use incidence::Marks;
 use mesh_parts::{Field, Mesh, mesh_of};
@@ -64,16 +64,21 @@ fn propose_large(alloc: Global, mesh: &Mesh, aim: &Aim) -> Result<Points, NoMemo
     propose_volumes(alloc, mesh, &volumes)
 }
 
+/// Points that split the tetrahedra that are asked for, one by one.
+fn split_all(alloc: Global, field: &Field, asked: &[Asked], aim: &Aim) -> Result<Points, NoMemory> {
+    let mut refiner = Refiner::new(alloc, field, aim.halvings, aim.splits_boundary)?;
+    for asked in asked {
+        refiner.split(asked)?;
+    }
+    refiner.taken.points(alloc)
+}
+
 /// Points that a mesh is to get so that no tetrahedron is over the ratio, or over its greatest
 /// volume.
 fn propose_slim(alloc: Global, mesh: &Mesh, aim: &Aim, ratio: Ratio) -> Result<Points, NoMemory> {
     let field = Field::new(alloc, mesh, aim.own)?;
     let asked = asked_of(alloc, &field, ratio, aim.own)?;
-    let mut refiner = Refiner::new(alloc, &field, aim.halvings, aim.splits_boundary)?;
-    for asked in asked.as_slice() {
-        refiner.split(asked)?;
-    }
-    refiner.taken.points(alloc)
+    split_all(alloc, &field, asked.as_slice(), aim)
 }
 
 /// Points that a mesh is to get so that no tetrahedron is over the bounds of the aim: `points` with

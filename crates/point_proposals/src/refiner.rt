@@ -240,11 +240,7 @@ impl<'a> Refiner<'a> {
         if edges.is_empty() && faces.is_empty() {
             return self.take(p, lengths);
         }
-        let answer = self.try_subsegments(edges.as_slice(), lengths)?;
-        if answer != Answer::Refused {
-            return Ok(answer);
-        }
-        let answer = self.try_subfaces(faces.as_slice(), lengths)?;
+        let answer = self.try_encroached(edges.as_slice(), faces.as_slice(), lengths)?;
         if answer != Answer::Refused {
             return Ok(answer);
         }
@@ -255,6 +251,20 @@ impl<'a> Refiner<'a> {
         }
         self.region.grow(field, p, &[t], None)?;
         self.take_encroaching(p, lengths)
+    }
+
+    /// Proposes a point of the first of some subsegments that can be split, or else of the first of
+    /// some subfaces.
+    fn try_encroached(
+        &mut self,
+        edges: &[Ranked],
+        faces: &[Ranked],
+        lengths: &Lengths,
+    ) -> Result<Answer, NoMemory> {
+        match self.try_subsegments(edges, lengths)? {
+            Answer::Refused => self.try_subfaces(faces, lengths),
+            answer => Ok(answer),
+        }
     }
 
     /// Proposes a point of the facets that hide the circumcenter of a tetrahedron: the foot of the
