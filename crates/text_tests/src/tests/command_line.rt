@@ -5,7 +5,7 @@ use std::alloc::Global;
 use tet_ports::{Name, NoMemory, Words};
 
 /// These words as the program gets them.
-pub(crate) fn words_of(alloc: Global, words: &[&[u8]]) -> Result<Words, NoMemory> {
+fn words_of(alloc: Global, words: &[&[u8]]) -> Result<Words, NoMemory> {
     let mut named = Words::new(alloc);
     for word in words {
         named.push(Name::from_slice(alloc, word)?)?;
@@ -21,16 +21,13 @@ struct Faulty {
     place: usize,
 }
 
-/// How reading these words is refused, if it is.
-fn refusal_of(alloc: Global, words: &[&[u8]]) -> Result<Option<WordsFault>, NoMemory> {
-    let words = words_of(alloc, words)?;
-    Ok(read_words(alloc, &words).err())
-}
-
 /// Whether the words of a case are refused so.
-fn is_refused(alloc: Global, case: &Faulty) -> Result<bool, NoMemory> {
+fn is_refused(alloc: Global, case: &Faulty) -> bool {
     let (word, place) = (case.word, case.place);
-    Ok(refusal_of(alloc, case.words)? == Some(WordsFault::Usage { word, place }))
+    match words_of(alloc, case.words) {
+        Ok(words) => { read_words(alloc, &words).err() == Some(WordsFault::Usage { word, place }) }
+        Err(NoMemory) => false,
+    }
 }
 
 static FAULTY: [Faulty; 8] = [
@@ -84,18 +81,15 @@ static FAULTY: [Faulty; 8] = [
     },
 ];
 
-/// The first case that is not refused so.
-fn other_fault(alloc: Global) -> Option<&'static str> {
+#[test]
+fn faulty_words(rt: HostRuntime) {
     for case in &FAULTY {
-        if is_refused(alloc, case) != Ok(true) {
-            return Some(case.name);
-        }
+        assert!(rt; is_refused(rt.alloc(), case), "{}", case.name);
     }
-    None
 }
 
 /// What is asked for, in part.
-#[derive(Clone, Copy, Debug, PartialEq, Eq)]
+#[derive(Clone, Copy, PartialEq, Eq)]
 struct Asked<'a> {
     piecewise: bool,
     from_zero: bool,
@@ -208,23 +202,20 @@ fn asked_of(options: &Options) -> Asked<'_> {
     }
 }
 
-/// Whether the words of a case ask for what it says.
-fn asks(alloc: Global, case: &Asking) -> Result<bool, NoMemory> {
-    let words = words_of(alloc, case.words)?;
-    match read_words(alloc, &words) {
-        Ok(options) => Ok(asked_of(&options) == case.asked),
-        Err(_) => Ok(false),
+/// Whether these words ask for this.
+fn are_asking(alloc: Global, words: &Words, asked: &Asked<'_>) -> bool {
+    match read_words(alloc, words) {
+        Ok(options) => asked_of(&options) == *asked,
+        Err(_) => false,
     }
 }
 
-/// The first case that asks for something else.
-fn other_options(alloc: Global) -> Option<&'static str> {
-    for case in &ASKING {
-        if asks(alloc, case) != Ok(true) {
-            return Some(case.name);
-        }
+/// Whether the words of a case ask for what it says.
+fn asks(alloc: Global, case: &Asking) -> bool {
+    match words_of(alloc, case.words) {
+        Ok(words) => are_asking(alloc, &words, &case.asked),
+        Err(NoMemory) => false,
     }
-    None
 }
 
 /// Whether a file is named by the base of a name and an extension.
@@ -236,7 +227,8 @@ fn is_named(alloc: Global) -> Result<bool, NoMemory> {
 
 #[test]
 fn words_are_read(rt: HostRuntime) {
-    let alloc = rt.alloc();
-    assert_eq!(rt; (other_fault(alloc), other_options(alloc)), (None, None));
-    assert!(rt; is_named(alloc) == Ok(true));
+    assert!(rt; is_named(rt.alloc()) == Ok(true));
+    for case in &ASKING {
+        assert!(rt; asks(rt.alloc(), case), "{}", case.name);
+    }
 }

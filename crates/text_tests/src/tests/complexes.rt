@@ -1,11 +1,10 @@
 //! Texts in both forms: the complexes that they state, and their faults.
 
-ghost use Rattle.std.specs.Prelude.{◌≡◌, None, IfOk};
+ghost use Rattle.std.specs.Prelude.{◌≤◌, length, IfOk};
 ghost use Rattle.plc_files.specs.Checks.{HasFewParts};
-ghost use Rattle.plc_files.specs.Text.{plc_with};
 
-use geo_laws::{Complex, RatPoints};
-use grid_coords::{DecimalPoint, Grid};
+use geo_laws::{Complex, Facet, RatPoints};
+use grid_coords::Grid;
 use node_files::{Limits, NodeText};
 use plc_files::Form::{Poly, Smesh};
 use plc_files::*;
@@ -244,12 +243,31 @@ const UNITS: Grid = Grid {
 };
 
 /// The complex on a grid, where its corners are in range.
-fn bound(alloc: Global, text: &PlcText, first: u32, count: u64) -> Result<Complex, PlcFault>
+pub(crate) fn bound(
+    alloc: Global,
+    text: &PlcText,
+    first: u32,
+    count: u64,
+) -> Result<Complex, PlcFault>
     requires few { HasFewParts text.now }
 {
     let count = count.min(100_000);
     check_corners(text, first, count)?;
     bind(alloc, Limits::tetgen(), text, first, count, &UNITS)
+}
+
+/// As `bound`, for a text in one of the two forms.
+fn bound_text(
+    alloc: Global,
+    form: Form,
+    text: &[u8],
+    first: u32,
+    count: u64,
+) -> Result<Complex, PlcFault> {
+    match read(alloc, form, text) {
+        Ok(text) => bound(alloc, &text, first, count),
+        Err(fault) => Err(fault),
+    }
 }
 
 /// Whether a point has these coordinates over this denominator.
@@ -265,19 +283,18 @@ fn are_at(points: &RatPoints, wanted: &[PointCase]) -> bool {
     same
 }
 
+fn is_facet(facet: &Facet, wanted: &FacetCase) -> bool {
+    let (first, past, holes, marker) = wanted;
+    (facet.first, facet.past) == (*first, *past)
+        && facet.marker == *marker
+        && are_at(&facet.holes, holes)
+}
+
 fn has_facets(complex: &Complex, wanted: &[FacetCase]) -> bool {
-    let mut same = complex.facet_count() as usize == wanted.len();
-    for i in 0..complex.facet_count() {
-        let facet = complex.facet(i);
-        same &= match wanted.get(i as usize) {
-            Some((first, past, holes, marker)) => {
-                facet.first == *first
-                    && facet.past == *past
-                    && facet.marker == *marker
-                    && are_at(&facet.holes, holes)
-            }
-            None => false,
-        };
+    let count = complex.facet_count();
+    let mut same = count as usize == wanted.len();
+    for (i, facet) in wanted.iter().enumerate() {
+        same &= i < count as usize && is_facet(complex.facet(i as u32), facet);
     }
     same
 }
@@ -318,49 +335,21 @@ fn has_segments(alloc: Global, complex: &Complex, wanted: &[(u32, u32)]) -> bool
     same
 }
 
-/// The first part of a complex that is not as wanted.
-fn other_part(alloc: Global, complex: &Complex, case: &Case) -> Option<&'static str> {
-    if !has_facets(complex, case.facets) {
-        Some("facets")
-    } else if !has_polygons(complex, case.polygons) {
-        Some("polygons")
-    } else if !has_segments(alloc, complex, case.segments) {
-        Some("segments")
-    } else if !are_at(complex.hole_points(), case.holes) {
-        Some("hole points")
-    } else if !has_regions(complex, case.regions) {
-        Some("regions")
-    } else {
-        None
-    }
+/// Whether a complex is the one of the case.
+fn is_complex(alloc: Global, complex: &Complex, case: &Case) -> bool {
+    has_facets(complex, case.facets)
+        && has_polygons(complex, case.polygons)
+        && has_segments(alloc, complex, case.segments)
+        && are_at(complex.hole_points(), case.holes)
+        && has_regions(complex, case.regions)
 }
 
-/// As `other_part`, for the complex of a text on a grid.
-fn bound_difference(alloc: Global, text: &PlcText, case: &Case) -> Option<&'static str>
-    requires few { HasFewParts text.now }
-{
-    match bound(alloc, text, case.first, case.count) {
-        Ok(complex) => other_part(alloc, &complex, case),
-        Err(_) => Some("corners"),
+/// Whether a text states the complex of its case.
+fn is_stated(alloc: Global, case: &Case) -> bool {
+    match bound_text(alloc, case.form, case.text, case.first, case.count) {
+        Ok(complex) => is_complex(alloc, &complex, case),
+        Err(_) => false,
     }
-}
-
-/// What is not as wanted in the complex that a text states.
-fn difference(alloc: Global, case: &Case) -> Option<&'static str> {
-    match read(alloc, case.form, case.text) {
-        Ok(text) => bound_difference(alloc, &text, case),
-        Err(_) => Some("text"),
-    }
-}
-
-/// The place of the first text whose complex is not as wanted.
-fn other_complex(alloc: Global) -> Option<usize> {
-    for (i, case) in CASES.iter().enumerate() {
-        if difference(alloc, case).is_some() {
-            return Some(i);
-        }
-    }
-    None
 }
 
 /// Texts whose corners are to be among the 8 numbers from 1 on; the line and the kind of the fault.
@@ -434,33 +423,27 @@ static FAULTS: [(Form, &[u8], usize, TextKind); 58] = [
     (Smesh, b"0\n1\n1 1\n0\n0\n5\n", 6, Extra),
 ];
 
-/// The fault of a text that is read, and whose corners are among the 8 numbers from 1 on.
-fn fault_of(alloc: Global, form: Form, text: &[u8]) -> Option<PlcFault> {
-    match read(alloc, form, text) {
-        Ok(text) => check_corners(&text, 1, 8).err().map(PlcFault::Text),
-        Err(fault) => Some(fault),
-    }
-}
-
 /// Whether the text is refused with the fault of this line and kind.
 fn has_fault(alloc: Global, form: Form, text: &[u8], line: usize, kind: TextKind) -> bool {
-    fault_of(alloc, form, text) == Some(PlcFault::Text(TextFault { line, kind }))
-}
-
-/// The place of the first text with another fault.
-fn other_fault(alloc: Global) -> Option<usize> {
-    for (i, (form, text, line, kind)) in FAULTS.iter().enumerate() {
-        if !has_fault(alloc, *form, text, *line, *kind) {
-            return Some(i);
-        }
-    }
-    None
+    let fault = bound_text(alloc, form, text, 1, 8).err();
+    fault == Some(PlcFault::Text(TextFault { line, kind }))
 }
 
 #[test]
-fn complexes_and_their_faults(rt: HostRuntime) {
-    let alloc = rt.alloc();
-    assert_eq!(rt; (other_complex(alloc), other_fault(alloc)), (None, None));
+fn complexes(rt: HostRuntime) {
+    for (i, case) in CASES.iter().enumerate() {
+        assert!(rt; is_stated(rt.alloc(), case), "{i}");
+    }
+}
+
+#[test]
+fn faults_of_complexes(rt: HostRuntime) {
+    for (form, text, line, kind) in &FAULTS {
+        assert!(rt;
+            has_fault(rt.alloc(), *form, text, *line, *kind),
+            "{text:?}"
+        );
+    }
 }
 
 /// A text, and then a piece `count` times.
@@ -472,18 +455,10 @@ fn repeated(alloc: Global, head: &[u8], piece: &[u8], count: usize) -> Result<By
     Ok(text)
 }
 
-/// The fault of a text on a grid, whose corners are to be 1.
-fn bound_fault(alloc: Global, text: &[u8]) -> Option<PlcFault> {
-    match read(alloc, Poly, text) {
-        Ok(text) => bound(alloc, &text, 1, 1).err(),
-        Err(fault) => Some(fault),
-    }
-}
-
-/// As `bound_fault`, for a text and then a piece `count` times.
+/// The fault of a text and then a piece `count` times, on a grid, whose corners are to be 1.
 fn repeated_fault(alloc: Global, head: &[u8], piece: &[u8], count: usize) -> Option<PlcFault> {
     match repeated(alloc, head, piece, count) {
-        Ok(text) => bound_fault(alloc, text.as_slice()),
+        Ok(text) => bound_text(alloc, Poly, text.as_slice(), 1, 1).err(),
         Err(NoMemory) => Some(PlcFault::NoMemory),
     }
 }
@@ -522,14 +497,14 @@ static LIMITS: [(&[u8], &[u8], usize, Option<PlcFault>); 5] = [
     ),
 ];
 
-/// The place of the first text with another fault.
-fn other_limit(alloc: Global) -> Option<usize> {
-    for (i, (head, piece, count, wanted)) in LIMITS.iter().enumerate() {
-        if repeated_fault(alloc, head, piece, *count) != *wanted {
-            return Some(i);
-        }
+#[test]
+fn limits(rt: HostRuntime) {
+    for (head, piece, count, wanted) in &LIMITS {
+        assert!(rt;
+            repeated_fault(rt.alloc(), head, piece, *count) == *wanted,
+            "{count}"
+        );
     }
-    None
 }
 
 /// The faces of the box of a sample; each line is 1.
@@ -552,27 +527,27 @@ fn has_box(alloc: Global, text: &PlcText, count: usize) -> bool
     }
 }
 
-/// The number of points of a list, and its last point.
-fn last_of(nodes: &NodeText) -> (usize, Option<[i128; 3]>) {
-    let last = nodes.decimals.as_slice().last();
-    let last = last.map(|p| [p.x.value, p.y.value, p.z.value]);
-    (nodes.decimals.len(), last)
-}
-
-/// As `last_of`, for a text whose facets are those of the box.
-fn last_in_box(alloc: Global, text: &PlcText) -> (usize, Option<[i128; 3]>)
-    requires few { HasFewParts text.now }
-{
+/// The number of points of a text.
+pub(crate) fn point_count(text: &PlcText) -> usize {
     match text.nodes() {
-        Some(nodes) if has_box(alloc, text, nodes.decimals.len()) => last_of(nodes),
-        _ => (0, None),
+        Some(nodes) => nodes.decimals.len(),
+        None => 0,
     }
 }
 
-fn last_of_sample(alloc: Global, n: u32) -> (usize, Option<[i128; 3]>) {
+/// The last point of a text.
+fn last_of(text: &PlcText) -> Option<[i128; 3]> {
+    let last = text.nodes()?.decimals.as_slice().last()?;
+    Some([last.x.value, last.y.value, last.z.value])
+}
+
+/// Whether the sample has the faces of the box, this number of points, and this last point.
+fn is_sample(alloc: Global, n: u32, points: usize, last: [i128; 3]) -> bool {
     match sample(alloc, n.min(10_000)) {
-        Ok(text) => last_in_box(alloc, &text),
-        Err(NoMemory) => (0, None),
+        Ok(text) => has_box(alloc, &text, points)
+            && point_count(&text) == points
+            && last_of(&text) == Some(last),
+        Err(NoMemory) => false,
     }
 }
 
@@ -582,29 +557,11 @@ static SAMPLES: [(u32, usize, [i128; 3]); 3] = [
     (3, 11, [580_843, 68_597, 880_517]),
 ];
 
-/// The place of the first sample that is not as wanted.
-fn other_sample(alloc: Global) -> Option<usize> {
-    for (i, (n, points, last)) in SAMPLES.iter().enumerate() {
-        if last_of_sample(alloc, *n) != (*points, Some(*last)) {
-            return Some(i);
-        }
-    }
-    None
-}
-
 #[test]
-fn limits_and_samples(rt: HostRuntime) {
-    let alloc = rt.alloc();
-    assert_eq!(rt; (other_limit(alloc), other_sample(alloc)), (None, None));
-}
-
-/// How many points are told, and how many are handed out at the first and the second asking.
-fn handed_out(alloc: Global, text: &[u8]) -> Result<[Option<usize>; 3], PlcFault> {
-    let mut text = read(alloc, Poly, text)?;
-    let shown = text.nodes().map(|nodes| nodes.decimals.len());
-    let first = text.take_nodes().map(|nodes| nodes.decimals.len());
-    let second = text.take_nodes().map(|nodes| nodes.decimals.len());
-    Ok([shown, first, second])
+fn samples(rt: HostRuntime) {
+    for (n, points, last) in &SAMPLES {
+        assert!(rt; is_sample(rt.alloc(), *n, *points, *last), "{n}");
+    }
 }
 
 /// Regions with a limit in their last field, with a field that is none, and with no further field.
@@ -626,56 +583,26 @@ const LIMITED: [Option<Decimal>; 6] = [
 ];
 
 /// Whether the regions of a text have these limits, in this order.
-fn has_limits(alloc: Global, text: &[u8], wanted: &[Option<Decimal>]) -> Result<bool, PlcFault> {
-    let limits = read(alloc, Poly, text)?.limits(alloc)?;
-    Ok(limits.as_slice() == wanted)
+fn has_limits(alloc: Global, text: &PlcText, wanted: &[Option<Decimal>]) -> bool {
+    match text.limits(alloc) {
+        Ok(limits) => limits.as_slice() == wanted,
+        Err(NoMemory) => false,
+    }
+}
+
+/// Whether the text has points and hands them out once, and its regions have these limits.
+fn has_parts(alloc: Global, text: &[u8], wanted: &[Option<Decimal>]) -> bool {
+    match read(alloc, Poly, text) {
+        Ok(mut text) => has_limits(alloc, &text, wanted)
+            && text.take_nodes().is_some()
+            && text.take_nodes().is_none(),
+        Err(_) => false,
+    }
 }
 
 #[test]
-fn the_limits_of_regions(rt: HostRuntime) {
-    assert_eq!(rt; has_limits(rt.alloc(), WITH_LIMITS, &LIMITED), Ok(true));
-}
-
-const NO_POINTS: &[u8] = b"0 3 0 0\n0\n";
-
-const ORIGIN: DecimalPoint = DecimalPoint {
-    x: Decimal { value: 0, scale: 0 },
-    y: Decimal { value: 0, scale: 0 },
-    z: Decimal { value: 0, scale: 0 },
-    line: 1,
-};
-
-/// Appends to an empty text a facet of one polygon with one corner, and a hole point of it.
-fn add_parts(text: &mut PlcText) -> Result<(), NoMemory>
-    requires { text.old ≡ plc_with None }
-{
-    text.add_facet(Some(-4))?;
-    text.add_polygon(2)?;
-    text.add_corner(5, 2)?;
-    text.add_facet_hole(ORIGIN)
-}
-
-/// Appends a hole point and a region.
-fn add_points(text: &mut PlcText, attribute: &Bytes) -> Result<(), NoMemory> {
-    text.add_hole(ORIGIN)?;
-    text.add_region(ORIGIN, attribute)
-}
-
-/// A complex with one part of each kind.
-fn by_hand(alloc: Global) -> Result<PlcText, NoMemory> {
-    let attribute = Bytes::from_slice(alloc, b"x")?;
-    let mut text = PlcText::new(alloc, None);
-    add_parts(&mut text)?;
-    add_points(&mut text, &attribute)?;
-    Ok(text)
-}
-
-#[test]
-fn the_parts_of_a_text(rt: HostRuntime) {
-    let alloc = rt.alloc();
-    assert_eq!(rt; handed_out(alloc, BAR), Ok([Some(8), Some(8), None]));
-    assert_eq!(rt; handed_out(alloc, NO_POINTS), Ok([None; 3]));
-    assert!(rt; by_hand(alloc).is_ok());
+fn limits_of_regions_and_points(rt: HostRuntime) {
+    assert!(rt; has_parts(rt.alloc(), WITH_LIMITS, &LIMITED));
 }
 
 /// Whether a fault says this.
@@ -712,17 +639,9 @@ static MESSAGES: [(PlcFault, &str); 4] = [
     (PlcFault::NoMemory, "out of memory"),
 ];
 
-/// The place of the first fault that says something else.
-fn other_message(alloc: Global) -> Option<usize> {
-    for (i, (fault, text)) in MESSAGES.iter().enumerate() {
-        if !says(alloc, *fault, text) {
-            return Some(i);
-        }
-    }
-    None
-}
-
 #[test]
 fn messages(rt: HostRuntime) {
-    assert_eq!(rt; other_message(rt.alloc()), None);
+    for (fault, text) in &MESSAGES {
+        assert!(rt; says(rt.alloc(), *fault, text), "{text}");
+    }
 }

@@ -39,14 +39,12 @@ static LINES_AND_FIELDS: [(usize, usize, Option<(usize, &[u8])>); 8] = [
     (3, 0, None),
 ];
 
-/// The place of the first field that is not as wanted.
-fn other_field() -> Option<usize> {
-    for (i, (line, place, wanted)) in LINES_AND_FIELDS.iter().enumerate() {
-        if field_at(TEXT, *line, *place) != *wanted {
-            return Some(i);
-        }
+#[test]
+fn lines_and_fields(rt: HostRuntime) {
+    assert!(rt; counts_of_lines(TEXT) == (7, 7));
+    for (line, place, wanted) in &LINES_AND_FIELDS {
+        assert!(rt; field_at(TEXT, *line, *place) == *wanted, "{line} {place}");
     }
-    None
 }
 
 /// How many lines a text has, told before some content lines are taken and after.
@@ -81,26 +79,17 @@ fn count_and_whole(text: &[u8]) -> (Option<u64>, Option<i64>) {
     }
 }
 
-/// The place of the first text with another count or whole number.
-fn other_whole() -> Option<usize> {
-    for (i, (text, count, whole)) in COUNTS_AND_WHOLES.iter().enumerate() {
-        if count_and_whole(text) != (*count, *whole) {
-            return Some(i);
-        }
-    }
-    None
-}
-
 #[test]
-fn lines_and_numbers(rt: HostRuntime) {
-    assert!(rt; counts_of_lines(TEXT) == (7, 7));
-    assert_eq!(rt; (other_field(), other_whole()), (None, None));
+fn counts_and_wholes(rt: HostRuntime) {
+    for (text, count, whole) in &COUNTS_AND_WHOLES {
+        assert!(rt; count_and_whole(text) == (*count, *whole), "{text:?}");
+    }
 }
 
 const LARGEST: i128 = 999_999_999_999_999_999_999_999_999_999_999_999;
 
 /// The decimal that a text begins with.
-fn first_decimal(text: &[u8]) -> Option<Decimal> {
+pub(crate) fn first_decimal(text: &[u8]) -> Option<Decimal> {
     read_decimal(&first_field(text)?).ok()
 }
 
@@ -155,14 +144,14 @@ fn is_decimal(alloc: Global, text: &[u8], value: i128, scale: u32, wanted: &[u8]
     }
 }
 
-/// The place of the first text with another decimal, or one that is printed in another way.
-fn other_decimal(alloc: Global) -> Option<usize> {
-    for (i, (text, value, scale, wanted)) in DECIMALS.iter().enumerate() {
-        if !is_decimal(alloc, text, *value, *scale, wanted) {
-            return Some(i);
-        }
+#[test]
+fn decimals(rt: HostRuntime) {
+    for (text, value, scale, wanted) in &DECIMALS {
+        assert!(rt;
+            is_decimal(rt.alloc(), text, *value, *scale, wanted),
+            "{text:?}"
+        );
     }
-    None
 }
 
 /// The scale of the decimal that a text begins with, and the length of its text.
@@ -198,19 +187,10 @@ const NO_NUMBER: Option<TextFault> = Some(TextFault {
     kind: TextKind::NotANumber,
 });
 
-/// The place of the first text with another fault.
-fn other_fault() -> Option<usize> {
-    for (i, text) in NO_DECIMALS.iter().enumerate() {
-        if decimal_fault(text) != NO_NUMBER {
-            return Some(i);
-        }
-    }
-    None
-}
-
 #[test]
-fn decimals_and_their_faults(rt: HostRuntime) {
-    let alloc = rt.alloc();
-    assert_eq!(rt; (other_decimal(alloc), other_fault()), (None, None));
-    assert!(rt; lengths(alloc, b"1e-999") == Some((999, 1001)));
+fn faults_of_decimals(rt: HostRuntime) {
+    assert!(rt; lengths(rt.alloc(), b"1e-999") == Some((999, 1001)));
+    for text in &NO_DECIMALS {
+        assert!(rt; decimal_fault(text) == NO_NUMBER, "{text:?}");
+    }
 }

@@ -8,100 +8,9 @@ use std::io::{Read, Write};
 use std::test::Fail;
 use std::{fs, io, process};
 use tet_ports::{
-    Bytes, FetchFault, Folder, Items, MemFolder, MemSink, Name, NoMemory, OsFolder, PutFault, Sink,
-    StdSink, StoreFault, Words, read_whole, write_whole,
+    Bytes, FetchFault, Folder, MemFolder, MemSink, Name, NoMemory, OsFolder, PutFault, Sink,
+    StdSink, StoreFault, read_whole, write_whole,
 };
-
-/// Whether bytes that are appended to and then cut are the wanted ones each time.
-fn are_appended_and_cut(alloc: Global) -> Result<bool, NoMemory> {
-    let mut bytes = Bytes::from_slice(alloc, b"mesh")?;
-    bytes.append(b".1.ele")?;
-    let whole = bytes.as_slice() == b"mesh.1.ele".as_slice();
-    if bytes.len() >= 6 {
-        bytes.cut(6);
-    }
-    Ok(whole && bytes.as_slice() == b"mesh.1".as_slice())
-}
-
-/// Whether an empty list has just one item once it is pushed.
-fn is_pushed(alloc: Global) -> Result<bool, NoMemory> {
-    let mut numbers = Items::with_capacity(alloc, 2)?;
-    let was_empty = numbers.is_empty();
-    numbers.reserve(5)?;
-    numbers.push(7u32)?;
-    Ok(was_empty && numbers.len() == 1 && numbers.at(0) == 7 && *numbers.get(0) == 7)
-}
-
-/// Whether the second of two words is the one that was pushed last.
-fn is_last(alloc: Global) -> Result<bool, NoMemory> {
-    let mut words = Words::new(alloc);
-    words.push(Name::from_slice(alloc, b"-pS100nz")?)?;
-    words.push(Name::from_slice(alloc, b"bar")?)?;
-    Ok(words.len() == 2 && words.word(1).as_slice() == b"bar".as_slice())
-}
-
-#[test]
-fn lists_are_appended_to(rt: HostRuntime) {
-    let alloc = rt.alloc();
-    assert!(rt; are_appended_and_cut(alloc) == Ok(true));
-    assert!(rt; (is_pushed(alloc), is_last(alloc)) == (Ok(true), Ok(true)));
-}
-
-/// The bytes that a folder answers, whole or cut off; None where it answers none.
-fn fetched(
-    alloc: Global,
-    folder: &mut MemFolder,
-    name: &[u8],
-    most: usize,
-) -> Result<Option<Bytes>, NoMemory> {
-    let name = Name::from_slice(alloc, name)?;
-    match folder.fetch(alloc, &name, most) {
-        Ok(text) | Err(FetchFault::TooLarge { taken: text }) => Ok(Some(text)),
-        Err(_) => Ok(None),
-    }
-}
-
-/// Adds a file twice, and stores another.
-fn fill(alloc: Global, folder: &mut MemFolder) -> Result<bool, NoMemory> {
-    let (old, new) = (
-        Name::from_slice(alloc, b"old")?,
-        Name::from_slice(alloc, b"new")?,
-    );
-    folder.add(&old, &Bytes::from_slice(alloc, b"first")?)?;
-    folder.add(&old, &Bytes::from_slice(alloc, b"12 1\n")?)?;
-    let text = Bytes::from_slice(alloc, b"2 1")?;
-    Ok(folder.store(&new, &text).is_ok())
-}
-
-/// Whether a folder with these files answers this.
-fn answers_with(
-    alloc: Global,
-    name: &[u8],
-    most: usize,
-    want: Option<&[u8]>,
-) -> Result<bool, NoMemory> {
-    let mut folder = MemFolder::new(alloc);
-    let is_filled = fill(alloc, &mut folder)?;
-    let text = fetched(alloc, &mut folder, name, most)?;
-    Ok(is_filled && text.as_ref().map(|text| text.as_slice()) == want)
-}
-
-static STORED: [(&[u8], usize, Option<&[u8]>); 4] = [
-    (b"none", 9, None),
-    (b"old", 5, Some(b"12 1\n")),
-    (b"old", 3, Some(b"12 1")),
-    (b"new", 9, Some(b"2 1")),
-];
-
-/// The place of the first file of which another text is answered.
-fn other_answer(alloc: Global) -> Option<usize> {
-    for (i, (name, most, want)) in STORED.iter().enumerate() {
-        if answers_with(alloc, name, *most, *want) != Ok(true) {
-            return Some(i);
-        }
-    }
-    None
-}
 
 /// Whether the folder has just this text under the name.
 fn has_text(folder: &MemFolder, name: &Name, text: &[u8]) -> bool {
@@ -111,7 +20,7 @@ fn has_text(folder: &MemFolder, name: &Name, text: &[u8]) -> bool {
     }
 }
 
-fn fetch_fails(alloc: Global, folder: &mut MemFolder, name: &Name) -> bool {
+fn fetch_fails<F: Folder>(alloc: Global, folder: &mut F, name: &Name) -> bool {
     matches!(folder.fetch(alloc, name, 9), Err(FetchFault::Failed))
 }
 
@@ -147,14 +56,14 @@ static FAILED_STORES: [(u32, usize, &[u8]); 3] = [
     (3, 1000, b"12 1\n"),
 ];
 
-/// The first number at which another call fails.
-fn other_failing(alloc: Global) -> Option<u32> {
+#[test]
+fn calls_of_a_folder_in_memory_fail(rt: HostRuntime) {
     for (nth, kept, want) in &FAILED_STORES {
-        if face_fails_at(alloc, *nth, *kept, want) != Ok(true) {
-            return Some(*nth);
-        }
+        assert!(rt;
+            face_fails_at(rt.alloc(), *nth, *kept, want) == Ok(true),
+            "{nth}"
+        );
     }
-    None
 }
 
 /// What two puts answer where one is set to fail, and whether the sink then has this text.
@@ -185,21 +94,14 @@ static FAILED_PUTS: [(
     (3, 1, Ok(()), Ok(()), b"onetwo"),
 ];
 
-/// The first number at which another put fails.
-fn other_put(alloc: Global) -> Option<u32> {
-    for (nth, kept, first, second, want) in &FAILED_PUTS {
-        if two_puts(alloc, *nth, *kept, want) != (*first, *second, true) {
-            return Some(*nth);
-        }
-    }
-    None
-}
-
 #[test]
-fn folders_and_sinks_in_memory(rt: HostRuntime) {
-    let alloc = rt.alloc();
-    assert_eq!(rt; (other_failing(alloc), other_put(alloc)), (None, None));
-    assert_eq!(rt; other_answer(alloc), None);
+fn puts_to_a_sink_in_memory_fail(rt: HostRuntime) {
+    for (nth, kept, first, second, want) in &FAILED_PUTS {
+        assert!(rt;
+            two_puts(rt.alloc(), *nth, *kept, want) == (*first, *second, true),
+            "{nth}"
+        );
+    }
 }
 
 /// Whether a file has just this text, which is no longer than allowed.
@@ -221,22 +123,20 @@ fn taken<F: Folder>(alloc: Global, folder: &mut F, name: &Name, most: usize) -> 
 /// Whether a name can be neither fetched nor stored.
 fn fails<F: Folder>(alloc: Global, folder: &mut F, path: &[u8]) -> Result<bool, NoMemory> {
     let name = Name::from_slice(alloc, path)?;
-    let is_unread = matches!(folder.fetch(alloc, &name, 9), Err(FetchFault::Failed));
-    let stored = folder.store(&name, &Bytes::new(alloc));
-    Ok(is_unread && stored == Err(StoreFault::Failed))
+    let is_unread = fetch_fails(alloc, folder, &name);
+    Ok(is_unread && folder.store(&name, &Bytes::new(alloc)) == Err(StoreFault::Failed))
 }
 
 /// A text of three blocks and a part.
 fn long_text(alloc: Global) -> Result<Bytes, NoMemory> {
     let mut text = Bytes::new(alloc);
-    for i in 0..40_000u32 {
+    for i in 0..50_000u32 {
         text.append(&i.to_be_bytes())?;
-        text.append(b"\n")?;
     }
     Ok(text)
 }
 
-/// What a folder of the system does with a file, which is not there yet, and these texts: each
+/// What a folder does with a file, which is not there yet, and these texts: each
 /// answer is yes.
 fn answers_to<F: Folder>(
     alloc: Global,
@@ -274,19 +174,30 @@ fn answers<F: Folder>(alloc: Global, folder: &mut F, path: &[u8]) -> Result<[boo
 }
 
 #[test]
+fn a_folder_in_memory_holds_files(rt: HostRuntime) {
+    let mut folder = MemFolder::new(rt.alloc());
+    assert!(rt; answers(rt.alloc(), &mut folder, b"a.node") == Ok([true; 7]));
+}
+
+/// As `answers_to`, for a file in a directory.
+fn answers_in<F: Folder>(alloc: Global, folder: &mut F, dir: &str) -> Result<[bool; 7], NoMemory> {
+    let path = format!(in alloc; "{dir}/a.node")?;
+    answers(alloc, folder, path.as_bytes())
+}
+
+#[test]
 fn system_folder_reaches_files(rt: HostRuntime) -> Result<(), Fail> {
     let alloc = rt.alloc();
     let id = process::id(rt.process());
     let dir = format!(in alloc; "/tmp/tet_ports_{id}")?;
-    let path = format!(in alloc; "{dir}/a.node")?;
     fs::create_dir(&rt, dir.as_str())?;
-    let mut folder = OsFolder::new(&rt);
-    let answers = answers(alloc, &mut folder, path.as_bytes())?;
+    let answers = answers_in(alloc, &mut OsFolder::new(&rt), dir.as_str());
     // No name in UTF-8, and a folder.
-    let fails_both = fails(alloc, &mut folder, b"\xff")?
-        && fails(alloc, &mut folder, dir.as_bytes())?;
+    let fails_at_name = fails(alloc, &mut OsFolder::new(&rt), b"\xff");
+    let fails_at_folder = fails(alloc, &mut OsFolder::new(&rt), dir.as_bytes());
     fs::remove_dir_all(&rt, dir.as_str())?;
-    assert_eq!(rt; (answers, fails_both), ([true; 7], true));
+    assert!(rt; answers == Ok([true; 7]));
+    assert!(rt; fails_at_name == Ok(true) && fails_at_folder == Ok(true));
     Ok(())
 }
 
@@ -376,14 +287,14 @@ static CUT_READS: [(Option<usize>, usize, Result<usize, usize>); 5] = [
     (Some(0), 10, Err(0)),
 ];
 
-/// The place of the first read with another answer.
-fn other_read(alloc: Global) -> Option<usize> {
-    for (i, (cut, most, want)) in CUT_READS.iter().enumerate() {
-        if count_read(alloc, *cut, *most) != Ok(*want) {
-            return Some(i);
-        }
+#[test]
+fn short_interrupted_and_failing_reads(rt: HostRuntime) {
+    for (cut, most, want) in &CUT_READS {
+        assert!(rt;
+            count_read(rt.alloc(), *cut, *most) == Ok(*want),
+            "{most}, {cut:?}"
+        );
     }
-    None
 }
 
 static CUT_WRITES: [(Option<usize>, &[u8]); 3] = [
@@ -399,14 +310,11 @@ fn writes(alloc: Global, cut: Option<usize>, want: &[u8]) -> bool {
     written.is_ok() == cut.is_none() && writer.bytes.as_slice() == want
 }
 
-/// The place of the first write of something else.
-fn other_write(alloc: Global) -> Option<usize> {
-    for (i, (cut, want)) in CUT_WRITES.iter().enumerate() {
-        if !writes(alloc, *cut, want) {
-            return Some(i);
-        }
+#[test]
+fn short_interrupted_and_failing_writes(rt: HostRuntime) {
+    for (cut, want) in &CUT_WRITES {
+        assert!(rt; writes(rt.alloc(), *cut, want), "{cut:?}");
     }
-    None
 }
 
 static CUT_PUTS: [(Option<usize>, bool, Result<(), PutFault>); 3] = [
@@ -428,22 +336,12 @@ fn put_to_full() -> Result<(), PutFault> {
     StdSink::new(room.as_mut_slice()).put(b"points")
 }
 
-/// The place of the first put with another answer.
-fn other_put_to(alloc: Global) -> Option<usize> {
-    for (i, (cut, fails_flush, want)) in CUT_PUTS.iter().enumerate() {
-        if put_to(alloc, *cut, *fails_flush) != *want {
-            return Some(i);
-        }
-    }
-    None
-}
-
 #[test]
-fn short_interrupted_and_failing_streams(rt: HostRuntime) {
-    let alloc = rt.alloc();
-    assert_eq!(rt; (other_read(alloc), other_write(alloc)), (None, None));
-    assert_eq!(rt; other_put_to(alloc), None);
+fn short_interrupted_and_failing_puts(rt: HostRuntime) {
     assert!(rt; put_to_full() == Err(PutFault::Failed));
+    for (cut, fails_flush, want) in &CUT_PUTS {
+        assert!(rt; put_to(rt.alloc(), *cut, *fails_flush) == *want, "{cut:?}");
+    }
 }
 
 /// Sets one file to the bytes of another, over any folder, also one that tells nothing.

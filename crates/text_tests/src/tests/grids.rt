@@ -1,20 +1,18 @@
 //! Grids of points, roundings, and what is printed of grid coordinates.
 
+use crate::tests::fields::first_decimal;
 use grid_coords::*;
 use sign_predicates::GridPoint;
 use std::alloc::Global;
 use tet_ports::{Bytes, NoMemory};
-use tet_text::{Decimal, Lines, read_decimal};
+use tet_text::Decimal;
 
-/// The decimal that a text begins with.
-fn decimal(text: &[u8]) -> Option<Decimal> {
-    let mut lines = Lines::new(text);
-    let mut fields = lines.next_fields()?;
-    read_decimal(&fields.next()?).ok()
-}
+const ZERO: Decimal = Decimal { value: 0, scale: 0 };
 
-fn point(line: usize, x: &[u8], y: &[u8], z: &[u8]) -> Option<DecimalPoint> {
-    let (x, y, z) = (decimal(x)?, decimal(y)?, decimal(z)?);
+/// A point with this x, and with y 0.
+fn point(line: usize, x: &[u8], z: Decimal) -> Option<DecimalPoint> {
+    let x = first_decimal(x)?;
+    let y = ZERO;
     Some(DecimalPoint { x, y, z, line })
 }
 
@@ -22,7 +20,7 @@ fn point(line: usize, x: &[u8], y: &[u8], z: &[u8]) -> Option<DecimalPoint> {
 fn points(alloc: Global, xs: &[&[u8]]) -> Option<DecimalPoints> {
     let mut list = DecimalPoints::new(alloc);
     for (i, x) in xs.iter().enumerate() {
-        list.push(point(i, x, b"0", b"0")?).ok()?;
+        list.push(point(i, x, ZERO)?).ok()?;
     }
     Some(list)
 }
@@ -47,18 +45,18 @@ static ROUNDING: [(&[u8], u32, i128, u32); 10] = [
 
 /// The decimal that a text begins with, rounded to `decimals` decimals: its value and its scale.
 fn rounded(text: &[u8], decimals: u32) -> Option<(i128, u32)> {
-    let d = round_to(&decimal(text)?, decimals);
+    let d = round_to(&first_decimal(text)?, decimals);
     Some((d.value, d.scale))
 }
 
-/// The place of the first text that is rounded in another way.
-fn other_rounding() -> Option<usize> {
-    for (i, (text, decimals, value, scale)) in ROUNDING.iter().enumerate() {
-        if rounded(text, *decimals) != Some((*value, *scale)) {
-            return Some(i);
-        }
+#[test]
+fn roundings(rt: HostRuntime) {
+    for (text, decimals, value, scale) in &ROUNDING {
+        assert!(rt;
+            rounded(text, *decimals) == Some((*value, *scale)),
+            "{text:?}"
+        );
     }
-    None
 }
 
 static GRIDS: [(&[&[u8]], u32, Result<Grid, Range>); 9] = [
@@ -128,26 +126,31 @@ fn grid_of(alloc: Global, xs: &[&[u8]], most_halvings: u32) -> Option<Result<Gri
     Some(choose_grid(&points(alloc, xs)?, most_halvings, 8_388_608))
 }
 
-/// The place of the first points with another grid.
-fn other_grid(alloc: Global) -> Option<usize> {
-    for (i, (xs, most_halvings, wanted)) in GRIDS.iter().enumerate() {
-        if grid_of(alloc, xs, *most_halvings) != Some(*wanted) {
-            return Some(i);
-        }
-    }
-    None
-}
-
 #[test]
-fn roundings_and_grids(rt: HostRuntime) {
-    let alloc = rt.alloc();
-    assert_eq!(rt; (other_rounding(), other_grid(alloc)), (None, None));
+fn grids(rt: HostRuntime) {
+    for (xs, most_halvings, wanted) in &GRIDS {
+        assert!(rt;
+            grid_of(rt.alloc(), xs, *most_halvings) == Some(*wanted),
+            "{xs:?}"
+        );
+    }
 }
 
-/// The grid of a point, and where the point is on it.
+/// The point at 0.5, -1.25 and 3.
+const PLACED: DecimalPoint = DecimalPoint {
+    x: Decimal { value: 5, scale: 1 },
+    y: Decimal {
+        value: -125,
+        scale: 2,
+    },
+    z: Decimal { value: 3, scale: 0 },
+    line: 2,
+};
+
+/// The grid of `PLACED`, and where the point is on it.
 fn placed(alloc: Global) -> Option<(Grid, [i32; 3])> {
     let mut list = DecimalPoints::new(alloc);
-    list.push(point(2, b"0.5", b"-1.250", b"3")?).ok()?;
+    list.push(PLACED).ok()?;
     let grid = choose_grid(&list, 12, 8_388_608).ok()?;
     if list.len() != 1 {
         return None;
@@ -187,14 +190,12 @@ fn is_printed(alloc: Global, coordinate: i32, wanted: &[u8]) -> bool {
     }
 }
 
-/// The place of the first coordinate with another text.
-fn other_text(alloc: Global) -> Option<usize> {
-    for (i, (coordinate, wanted)) in TEXTS_OF_COORDINATES.iter().enumerate() {
-        if !is_printed(alloc, *coordinate, wanted) {
-            return Some(i);
-        }
+#[test]
+fn places_and_their_texts(rt: HostRuntime) {
+    assert!(rt; placed(rt.alloc()) == Some((HUNDREDTHS, PLACE)));
+    for (coordinate, wanted) in &TEXTS_OF_COORDINATES {
+        assert!(rt; is_printed(rt.alloc(), *coordinate, wanted), "{coordinate}");
     }
-    None
 }
 
 static RATIONAL_PLACES: [(&[u8], i64); 7] = [
@@ -212,27 +213,25 @@ const QUARTER_TENTHS: Grid = Grid {
     halvings: 2,
 };
 
+const MINUS_TENTH: Decimal = Decimal {
+    value: -1,
+    scale: 1,
+};
+
 /// The rational place of a point with this first coordinate.
 fn rational_place(x: &[u8]) -> Option<(i64, i64, i64, i64)> {
-    let p = to_rat(&QUARTER_TENTHS, &point(1, x, b"0", b"-0.1")?);
+    let p = to_rat(&QUARTER_TENTHS, &point(1, x, MINUS_TENTH)?);
     Some((p.x, p.y, p.z, p.w))
 }
 
-/// The place of the first coordinate at another rational place.
-fn other_place() -> Option<usize> {
-    for (i, (x, wanted)) in RATIONAL_PLACES.iter().enumerate() {
-        if rational_place(x) != Some((*wanted, 0, -4_000_000, 1_000_000)) {
-            return Some(i);
-        }
-    }
-    None
-}
-
 #[test]
-fn places_and_their_texts(rt: HostRuntime) {
-    let alloc = rt.alloc();
-    assert_eq!(rt; (other_text(alloc), other_place()), (None, None));
-    assert!(rt; placed(alloc) == Some((HUNDREDTHS, PLACE)));
+fn rational_places(rt: HostRuntime) {
+    for (x, wanted) in &RATIONAL_PLACES {
+        assert!(rt;
+            rational_place(x) == Some((*wanted, 0, -4_000_000, 1_000_000)),
+            "{x:?}"
+        );
+    }
 }
 
 /// The midpoint of a point and the point at 2 on the first axis.
@@ -287,6 +286,6 @@ const NEXT_TO_GREATEST: GridPoint = GridPoint {
 fn midpoints(rt: HostRuntime) {
     assert!(rt; middle(0, 4, -6) == Some([1, 2, -3]));
     assert!(rt; have_none());
-    assert_eq!(rt; halved_ways(LEAST, GREATEST), (NEXT_TO_GREATEST, 30));
-    assert_eq!(rt; midpoint(GREATEST, GREATEST), Some(GREATEST));
+    assert!(rt; halved_ways(LEAST, GREATEST) == (NEXT_TO_GREATEST, 30));
+    assert!(rt; midpoint(GREATEST, GREATEST) == Some(GREATEST));
 }

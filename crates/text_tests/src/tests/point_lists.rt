@@ -131,21 +131,12 @@ fn are_words(words: &[Name], wanted: &[&[u8]]) -> bool {
     are
 }
 
-/// The first part of a list that is not as wanted.
-fn other_part(list: &NodeText, case: &ListCase) -> Option<&'static str> {
-    if (list.first, list.attribute_count, list.flag)
-        != (case.first, case.attribute_count, case.flag)
-    {
-        Some("first line")
-    } else if !are_points(list.decimals.as_slice(), case.points) {
-        Some("points")
-    } else if !are_words(list.attributes.as_slice(), case.attributes) {
-        Some("attributes")
-    } else if list.markers.as_slice() != case.markers {
-        Some("markers")
-    } else {
-        None
-    }
+/// Whether a list is the one of the case.
+fn is_list(list: &NodeText, case: &ListCase) -> bool {
+    (list.first, list.attribute_count, list.flag) == (case.first, case.attribute_count, case.flag)
+        && are_points(list.decimals.as_slice(), case.points)
+        && are_words(list.attributes.as_slice(), case.attributes)
+        && list.markers.as_slice() == case.markers
 }
 
 /// The line of the next content.
@@ -154,27 +145,20 @@ fn next_line(lines: &mut Lines) -> Option<usize> {
     Some(fields.line())
 }
 
-/// What is not as wanted in the list that a text begins with.
-fn difference(alloc: Global, case: &ListCase) -> Option<&'static str> {
+/// Whether a text begins with the list of its case.
+fn begins_with_list(alloc: Global, case: &ListCase) -> bool {
     let mut lines = Lines::new(case.text);
-    let Ok(list) = read_first(alloc, &mut lines) else {
-        return Some("text");
-    };
-    if next_line(&mut lines) == case.next {
-        other_part(&list, case)
-    } else {
-        Some("next line")
+    match read_first(alloc, &mut lines) {
+        Ok(list) => is_list(&list, case) && next_line(&mut lines) == case.next,
+        Err(_) => false,
     }
 }
 
-/// The place of the first text whose list is not as wanted.
-fn other_list(alloc: Global) -> Option<usize> {
-    for (i, case) in LISTS.iter().enumerate() {
-        if difference(alloc, case).is_some() {
-            return Some(i);
-        }
+#[test]
+fn lists(rt: HostRuntime) {
+    for case in &LISTS {
+        assert!(rt; begins_with_list(rt.alloc(), case), "{:?}", case.text);
     }
-    None
 }
 
 /// Whole texts, and the line and the kind of their faults.
@@ -213,20 +197,11 @@ fn has_fault(alloc: Global, text: &[u8], line: usize, kind: TextKind) -> bool {
     read(alloc, text).err() == Some(NodeFault::Text(TextFault { line, kind }))
 }
 
-/// The place of the first text with another fault.
-fn other_fault(alloc: Global) -> Option<usize> {
-    for (i, (text, line, kind)) in FAULTS.iter().enumerate() {
-        if !has_fault(alloc, text, *line, *kind) {
-            return Some(i);
-        }
-    }
-    None
-}
-
 #[test]
-fn lists_and_their_faults(rt: HostRuntime) {
-    let alloc = rt.alloc();
-    assert_eq!(rt; (other_list(alloc), other_fault(alloc)), (None, None));
+fn faults_of_lists(rt: HostRuntime) {
+    for (text, line, kind) in &FAULTS {
+        assert!(rt; has_fault(rt.alloc(), text, *line, *kind), "{text:?}");
+    }
 }
 
 /// What settling the list of this text gives.
@@ -282,16 +257,6 @@ fn fault_of(alloc: Global, text: &[u8], options: GridOptions) -> Option<NodeFaul
     settled(alloc, text, options).err()
 }
 
-/// The place of the first text that is settled with another fault.
-fn other_refusal(alloc: Global) -> Option<usize> {
-    for (i, (text, options, fault)) in REFUSALS.iter().enumerate() {
-        if fault_of(alloc, text, *options) != *fault {
-            return Some(i);
-        }
-    }
-    None
-}
-
 /// A list of `count` points at one place, without attributes and markers.
 fn alike(alloc: Global, count: usize) -> Result<NodeText, NoMemory> {
     let zero = Decimal { value: 0, scale: 0 };
@@ -329,10 +294,11 @@ const TOO_MANY: NodeFault = NodeFault::TooMany {
 
 #[test]
 fn lists_that_are_refused(rt: HostRuntime) {
-    let alloc = rt.alloc();
-    assert_eq!(rt; other_refusal(alloc), None);
-    assert_eq!(rt; fault_of_alike(alloc, 20_000), None);
-    assert_eq!(rt; fault_of_alike(alloc, 20_001), Some(TOO_MANY));
+    assert!(rt; fault_of_alike(rt.alloc(), 20_000).is_none());
+    assert!(rt; fault_of_alike(rt.alloc(), 20_001) == Some(TOO_MANY));
+    for (text, options, fault) in &REFUSALS {
+        assert!(rt; fault_of(rt.alloc(), text, *options) == *fault, "{text:?}");
+    }
 }
 
 /// Lists with the names of their kept points and of two added ones, and the place of the kept point
@@ -349,27 +315,38 @@ static FOLDED: [(&[u8], GridOptions, &[u32], &[u32]); 4] = [
     (b"0\n", PLAIN, &[0, 1], &[]),
 ];
 
-/// Whether the list of a text has these names and folds its points so.
-fn folds(
+/// Whether a list has these names and folds its points so.
+fn folds(alloc: Global, table: &NodeTable, names: &[u32], folded: &[u32]) -> bool
+    requires { length table.now.listed ≤ tetgen_limits.points }
+{
+    match names_of(alloc, table, 2) {
+        Ok(all) => all.as_slice() == names && table.folded.as_slice() == folded,
+        Err(NoMemory) => false,
+    }
+}
+
+/// As `folds`, for the list of a text.
+fn is_folded(
     alloc: Global,
     text: &[u8],
     options: GridOptions,
     names: &[u32],
     folded: &[u32],
-) -> Result<bool, NodeFault> {
-    let table = settled(alloc, text, options)?;
-    let all = names_of(alloc, &table, 2)?;
-    Ok(all.as_slice() == names && table.folded.as_slice() == folded)
+) -> bool {
+    match settled(alloc, text, options) {
+        Ok(table) => folds(alloc, &table, names, folded),
+        Err(_) => false,
+    }
 }
 
-/// The place of the first list that is folded in another way.
-fn other_folding(alloc: Global) -> Option<usize> {
-    for (i, (text, options, names, folded)) in FOLDED.iter().enumerate() {
-        if folds(alloc, text, *options, names, folded) != Ok(true) {
-            return Some(i);
-        }
+#[test]
+fn lists_are_folded(rt: HostRuntime) {
+    for (text, options, names, folded) in &FOLDED {
+        assert!(rt;
+            is_folded(rt.alloc(), text, *options, names, folded),
+            "{text:?}"
+        );
     }
-    None
 }
 
 const ADDED: GridPoint = GridPoint {
@@ -446,51 +423,42 @@ fn are_grid_points(points: &[GridPoint], wanted: &[[i32; 3]]) -> bool {
     are
 }
 
-/// The text of a list on its grid with points added, if its grid and points are those wanted.
-fn written_table(
-    alloc: Global,
-    table: &NodeTable,
-    case: &TableCase,
-) -> Result<Option<Bytes>, NoMemory>
+/// Whether a list with these points added is written as the text of the case.
+fn is_written(alloc: Global, table: &NodeTable, added: &Points, case: &TableCase) -> bool
+    requires table { IsNodeTable table.now }
+    requires few { length table.now.listed ≤ tetgen_limits.points }
+    requires added { length added.now ≤ 1 }
+{
+    match write_node(alloc, table, added, case.first) {
+        Ok(text) => text.as_slice() == case.written,
+        Err(NoMemory) => false,
+    }
+}
+
+/// Whether a list has the grid and the points of the case, and is written as its text.
+fn is_table(alloc: Global, table: &NodeTable, case: &TableCase) -> bool
     requires table { IsNodeTable table.now }
     requires few { length table.now.listed ≤ tetgen_limits.points }
 {
-    let is_wanted = table.grid == case.grid;
-    if !is_wanted || !are_grid_points(table.points.as_slice(), case.points) {
-        return Ok(None);
+    match added_points(alloc, case.is_added) {
+        Ok(added) => table.grid == case.grid
+            && are_grid_points(table.points.as_slice(), case.points)
+            && is_written(alloc, table, &added, case),
+        Err(NoMemory) => false,
     }
-    let added = added_points(alloc, case.is_added)?;
-    Ok(Some(write_node(alloc, table, &added, case.first)?))
 }
 
-/// As `written_table`, for the point list of the case's text.
-fn written(alloc: Global, case: &TableCase) -> Option<Bytes> {
+/// As `is_table`, for the list of the case's text.
+fn has_table(alloc: Global, case: &TableCase) -> bool {
     match settled(alloc, case.text, case.options) {
-        Ok(table) => written_table(alloc, &table, case).unwrap_or(None),
-        Err(_) => None,
+        Ok(table) => is_table(alloc, &table, case),
+        Err(_) => false,
     }
-}
-
-/// Whether the table is written as the text of the case.
-fn is_written(alloc: Global, case: &TableCase) -> bool {
-    match written(alloc, case) {
-        Some(text) => text.as_slice() == case.written,
-        None => false,
-    }
-}
-
-/// The place of the first list that is written in another way.
-fn other_text(alloc: Global) -> Option<usize> {
-    for (i, case) in TABLES.iter().enumerate() {
-        if !is_written(alloc, case) {
-            return Some(i);
-        }
-    }
-    None
 }
 
 #[test]
-fn lists_are_folded_and_written(rt: HostRuntime) {
-    let alloc = rt.alloc();
-    assert_eq!(rt; (other_folding(alloc), other_text(alloc)), (None, None));
+fn lists_are_written(rt: HostRuntime) {
+    for case in &TABLES {
+        assert!(rt; has_table(rt.alloc(), case), "{:?}", case.text);
+    }
 }
