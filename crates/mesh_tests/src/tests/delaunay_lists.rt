@@ -317,35 +317,40 @@ fn hull_of_a_pyramid(rt: HostRuntime) {
     assert!(rt; has_hull(rt.alloc(), &PYRAMID, &PYRAMID_HULL));
 }
 
-/// A coordinate of the pyramid, with wide odd steps.
-fn wide(coordinate: i8) -> i32
-    ensures low { pos 0 ≤ℤ result }
-    ensures high { result ≤ℤ pos 8388608 }
-{
-    if coordinate == 0 {
-        0
-    } else if coordinate == 1 {
-        4_000_001
-    } else {
-        8_000_002
-    }
-}
+/// The pyramid with wide odd steps: no frame has it.
+const WIDE_PYRAMID: [GridPoint; 5] = [
+    GridPoint { x: 0, y: 0, z: 0 },
+    GridPoint {
+        x: 8_000_002,
+        y: 0,
+        z: 0,
+    },
+    GridPoint {
+        x: 8_000_002,
+        y: 8_000_002,
+        z: 0,
+    },
+    GridPoint {
+        x: 0,
+        y: 8_000_002,
+        z: 0,
+    },
+    GridPoint {
+        x: 4_000_001,
+        y: 4_000_001,
+        z: 8_000_002,
+    },
+];
 
-/// The pyramid, so wide that no frame has it.
-fn wide_pyramid(alloc: Global) -> Result<Points, NoMemory> {
+/// A list of these points.
+fn listed(alloc: Global, places: &[GridPoint]) -> Result<Points, NoMemory> {
     let mut points = Points::new(alloc);
-    for [x, y, z] in PYRAMID {
-        points.push(GridPoint {
-            x: wide(x),
-            y: wide(y),
-            z: wide(z),
-        })?;
-    }
+    points.extend_from_slice(places)?;
     Ok(points)
 }
 
 fn has_wide_list(alloc: Global) -> bool {
-    match wide_pyramid(alloc) {
+    match listed(alloc, &WIDE_PYRAMID) {
         Ok(points) if is_small_set(&points) => has_rows(alloc, &points, &PYRAMID_ROWS),
         _ => false,
     }
@@ -364,37 +369,52 @@ fn drawn(state: &mut u64) -> u32
     1 + 2 * (*state >> 45) as u32
 }
 
-/// The side of the box of the cloud that a corner of the cube is on.
-fn box_side(coordinate: i8) -> u32
-    ensures { result < 2 ^ 21 }
-{
-    if coordinate == 0 { 0 } else { 1_048_576 }
-}
-
-fn box_point(x: u32, y: u32, z: u32) -> GridPoint
-    requires x { x < 2 ^ 21 }
-    requires y { y < 2 ^ 21 }
-    requires z { z < 2 ^ 21 }
-{
+/// A point drawn in the box of the cloud.
+fn drawn_point(state: &mut u64) -> GridPoint {
     GridPoint {
-        x: x as i32,
-        y: y as i32,
-        z: z as i32,
+        x: drawn(state) as i32,
+        y: drawn(state) as i32,
+        z: drawn(state) as i32,
     }
 }
+
+/// The end of the box of the cloud.
+const FAR: i32 = 1_048_576;
+
+/// The corners of the box of the cloud, as those of the cube.
+const BOX: [GridPoint; 8] = [
+    GridPoint { x: 0, y: 0, z: 0 },
+    GridPoint { x: FAR, y: 0, z: 0 },
+    GridPoint {
+        x: FAR,
+        y: FAR,
+        z: 0,
+    },
+    GridPoint { x: 0, y: FAR, z: 0 },
+    GridPoint { x: 0, y: 0, z: FAR },
+    GridPoint {
+        x: FAR,
+        y: 0,
+        z: FAR,
+    },
+    GridPoint {
+        x: FAR,
+        y: FAR,
+        z: FAR,
+    },
+    GridPoint {
+        x: 0,
+        y: FAR,
+        z: FAR,
+    },
+];
 
 /// The corners of a box and points drawn inside.
 fn cloud(alloc: Global, inner: usize) -> Result<Points, NoMemory> {
-    let mut points = Points::new(alloc);
-    for [x, y, z] in CUBE {
-        points.push(box_point(box_side(x), box_side(y), box_side(z)))?;
-    }
+    let mut points = listed(alloc, &BOX)?;
     let mut state = 1u64;
     for _ in 0..inner {
-        let x = drawn(&mut state);
-        let y = drawn(&mut state);
-        let z = drawn(&mut state);
-        points.push(box_point(x, y, z))?;
+        points.push(drawn_point(&mut state))?;
     }
     Ok(points)
 }
@@ -415,7 +435,7 @@ fn cloud_rows(alloc: Global, inner: usize) -> Option<usize> {
 
 #[test]
 fn a_cloud(rt: HostRuntime) {
-    assert_eq!(rt; cloud_rows(rt.alloc(), 2000), Some(13_200));
+    assert!(rt; cloud_rows(rt.alloc(), 2000) == Some(13_200));
 }
 
 /// A point that is to be added, and its number.
@@ -514,13 +534,17 @@ fn cavities_in_a_cube(rt: HostRuntime) {
     }
 }
 
+/// Whether there are points with these numbers and a side between them.
+fn has_side(mesh: &Living, a: u32, b: u32) -> bool {
+    let count = mesh.points().len();
+    (a as usize) < count && (b as usize) < count && mesh.has_side(a, b)
+}
+
 /// How many sides the mesh has among its first 64 points, each from both ends.
 fn sides(mesh: &Living) -> usize {
-    let most = mesh.points().len();
     let mut count = 0usize;
-    for i in 0..4096usize {
-        let (a, b) = (i / 64, i % 64);
-        if a < most && b < most && mesh.has_side(a as u32, b as u32) {
+    for i in 0..4096u32 {
+        if has_side(mesh, i / 64, i % 64) {
             count = count.saturating_add(1);
         }
     }

@@ -221,23 +221,28 @@ fn has_list_with(alloc: Global, living: &mut Living, p: GridPoint, lost: &mut Ve
 }
 
 /// Whether the mesh has the Delaunay list of its points after each of the three splits.
-fn has_lists(alloc: Global) -> bool {
-    let Ok(points) = split_points(alloc) else {
-        return false;
-    };
-    if !is_small_set(&points) {
-        return false;
-    }
-    let Ok(mut living) = Living::new(alloc, points) else {
-        return false;
-    };
-    let mut lost = Vec::new(alloc);
+fn has_lists(alloc: Global, living: &mut Living, lost: &mut Vec<u32>) -> bool {
     for x in [0, -4, 4] {
-        if !has_list_with(alloc, &mut living, quadruple(x, 0, 0), &mut lost) {
+        if !has_list_with(alloc, living, quadruple(x, 0, 0), lost) {
             return false;
         }
     }
     true
+}
+
+/// The mesh of the points of the splits.
+fn living_of_splits(alloc: Global) -> Option<Living> {
+    match split_points(alloc) {
+        Ok(points) if is_small_set(&points) => Living::new(alloc, points).ok(),
+        _ => None,
+    }
+}
+
+#[test]
+fn lists_of_splits(rt: HostRuntime) -> Result<(), Fail> {
+    let mut living = living_of_splits(rt.alloc()).ok_or("no mesh")?;
+    assert!(rt; has_lists(rt.alloc(), &mut living, &mut Vec::new(rt.alloc())));
+    Ok(())
 }
 
 fn fault(alloc: Global, budget: u32) -> Option<ProtectFault>
@@ -249,16 +254,20 @@ fn fault(alloc: Global, budget: u32) -> Option<ProtectFault>
     }
 }
 
+/// The second piece, where the third split is one too many.
+const SECOND: Piece = Piece {
+    a: 8,
+    b: 1,
+    halvings: 1,
+};
+
 #[test]
 fn three_splits(rt: HostRuntime) {
     let alloc = rt.alloc();
-    let enough = splits_in_three(alloc, 100) && splits_in_three(alloc, 3);
-    let lists = has_lists(alloc);
-    let piece = Piece {
-        a: 8,
-        b: 1,
-        halvings: 1,
+    let few = ProtectFault::BudgetEnd {
+        made: 2,
+        piece: SECOND,
     };
-    let few = fault(alloc, 2) == Some(ProtectFault::BudgetEnd { made: 2, piece });
-    assert!(rt; enough && few && lists);
+    assert!(rt; splits_in_three(alloc, 100) && splits_in_three(alloc, 3));
+    assert!(rt; fault(alloc, 2) == Some(few));
 }

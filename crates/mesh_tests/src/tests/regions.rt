@@ -1,5 +1,5 @@
 //! Facets of several polygons, with hole points.
-ghost use Rattle.std.specs.Prelude.{◌<◌, All, IsTrue};
+ghost use Rattle.std.specs.Prelude.{◌<◌, All, IsTrue, length};
 ghost use Rattle.geo_laws.specs.Complex.{HasCornersOf};
 
 use crate::tests::small_sets::points_of;
@@ -124,16 +124,30 @@ fn are_there(points: &Points, complex: &Complex) -> bool
     true
 }
 
-/// The facet's plane, and whether the facet holds the point.
-fn looked_up(points: &Points, complex: &Complex, facet: u32, x: RatPoint) -> Option<(Plane, bool)> {
-    if facet < complex.facet_count() && are_there(points, complex) {
-        Some((
-            plane_of(points, complex, facet),
-            in_facet(points, complex, facet, x),
-        ))
-    } else {
-        None
-    }
+/// Whether a facet has this plane.
+fn has_plane(points: &Points, complex: &Complex, facet: u32, plane: Plane) -> bool
+    requires corners { HasCornersOf points.now complex.now }
+    requires there { facet < length complex.now.facets }
+{
+    plane_of(points, complex, facet) == plane
+}
+
+/// Whether a facet holds a point, or holds it not, as it is said.
+fn is_held(points: &Points, complex: &Complex, facet: u32, x: RatPoint, held: bool) -> bool
+    requires corners { HasCornersOf points.now complex.now }
+    requires there { facet < length complex.now.facets }
+{
+    in_facet(points, complex, facet, x) == held
+}
+
+/// Whether a facet is there, has this plane, and holds a place or not.
+fn is_as_said(points: &Points, complex: &Complex, case: &HeldCase) -> bool
+    requires { HasCornersOf points.now complex.now }
+{
+    let (facet, plane, place, held) = *case;
+    facet < complex.facet_count()
+        && has_plane(points, complex, facet, plane)
+        && is_held(points, complex, facet, at(place), held)
 }
 
 /// A plane by three points of it.
@@ -142,7 +156,9 @@ type Plane = Option<(u32, u32, u32)>;
 const SQUARE: Plane = Some((0, 1, 2));
 
 /// A facet with its plane, and whether it holds a place.
-static HELD: [(u32, Plane, Place, bool); 32] = [
+type HeldCase = (u32, Plane, Place, bool);
+
+static HELD: [HeldCase; 32] = [
     (0, SQUARE, [1, 1, 0], true),
     (0, SQUARE, [4, 5, 0], false),
     (0, SQUARE, [4, 3, 0], true),
@@ -178,37 +194,33 @@ static HELD: [(u32, Plane, Place, bool); 32] = [
 ];
 
 /// The first facet that has another plane, or holds its place otherwise than it is said.
-fn first_other(alloc: Global) -> Result<Option<usize>, NoMemory> {
-    let points = points_of(alloc, &[&PLACES])?;
-    let complex = facets(alloc)?;
-    for (i, (facet, plane, place, held)) in HELD.iter().enumerate() {
-        if looked_up(&points, &complex, *facet, at(*place)) != Some((*plane, *held)) {
-            return Ok(Some(i));
+fn first_other(points: &Points, complex: &Complex) -> Option<usize> {
+    if !are_there(points, complex) {
+        return Some(HELD.len());
+    }
+    for (i, case) in HELD.iter().enumerate() {
+        if !is_as_said(points, complex, case) {
+            return Some(i);
         }
     }
-    Ok(None)
+    None
 }
 
 #[test]
-fn facets_hold_their_sides_and_what_no_hole_point_takes_out(rt: HostRuntime) {
-    assert_eq!(rt; first_other(rt.alloc()), Ok(None));
+fn facets_hold_their_sides_and_what_no_hole_point_takes_out(rt: HostRuntime) -> Result<(), Fail> {
+    let points = points_of(rt.alloc(), &[&PLACES])?;
+    let complex = facets(rt.alloc())?;
+    assert_eq!(rt; first_other(&points, &complex), None);
+    Ok(())
 }
 
-/// The complex of these facets of one polygon each, and whether they are flat.
-fn flatness(
-    alloc: Global,
-    points: &Points,
-    polygons: &[&[u32]],
-) -> Result<Option<Result<(), NotFlat>>, NoMemory> {
+/// The complex of facets of one polygon each.
+fn one_polygon_each(alloc: Global, polygons: &[&[u32]]) -> Result<Complex, NoMemory> {
     let mut complex = Complex::new(alloc);
     for corners in polygons {
         add_facet(&mut complex, &[*corners], &[])?;
     }
-    if are_there(points, &complex) {
-        Ok(Some(check_flat(points, &complex)))
-    } else {
-        Ok(None)
-    }
+    Ok(complex)
 }
 
 /// The points of the first facet that is bent.
@@ -237,20 +249,19 @@ static FLATNESS: [(&str, &[&[u32]], Result<(), NotFlat>); 3] = [
     ("none", &[], Ok(())),
 ];
 
-/// Whether the test for flat facets gives `told`.
-fn is_told(
-    alloc: Global,
-    polygons: &[&[u32]],
-    told: Result<(), NotFlat>,
-) -> Result<bool, NoMemory> {
-    let points = points_of(alloc, &[&PLACES])?;
-    Ok(flatness(alloc, &points, polygons)? == Some(told))
+/// Whether the test for flat facets of one polygon each gives `told`.
+fn is_told(alloc: Global, points: &Points, polygons: &[&[u32]], told: Result<(), NotFlat>) -> bool {
+    match one_polygon_each(alloc, polygons) {
+        Ok(complex) => are_there(points, &complex) && check_flat(points, &complex) == told,
+        Err(NoMemory) => false,
+    }
 }
 
 #[test]
 fn the_first_facet_that_is_bent_is_told(rt: HostRuntime) -> Result<(), Fail> {
+    let points = points_of(rt.alloc(), &[&PLACES])?;
     for (name, polygons, told) in &FLATNESS {
-        assert!(rt; is_told(rt.alloc(), polygons, *told)?, "{name}");
+        assert!(rt; is_told(rt.alloc(), &points, polygons, *told), "{name}");
     }
     Ok(())
 }

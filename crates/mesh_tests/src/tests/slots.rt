@@ -3,6 +3,7 @@ ghost use Rattle.std.specs.Prelude.{◌≡◌, ◌≢◌, ℕ, ◌<◌, IsTrue};
 ghost use Rattle.mesh_arena.specs.Mesh.{corners_at, IsLive, corner_list, AllDiffer};
 
 use mesh_arena::{Arena, Corner, Slot, SlotCorners};
+use std::alloc::Global;
 use std::test::Fail;
 
 /// The point at infinity among the numbers of points.
@@ -34,7 +35,7 @@ fn are_different(t: SlotCorners) -> bool
 }
 
 /// Adds these slots, with no neighbors.
-pub(crate) fn add_slots(arena: &mut Arena, rows: &[[u32; 4]]) -> Result<(), Fail> {
+fn add_slots(arena: &mut Arena, rows: &[[u32; 4]]) -> Result<(), Fail> {
     for row in rows {
         let t = slot_corners(*row);
         if !are_different(t) {
@@ -82,10 +83,24 @@ fn link_places(arena: &mut Arena, i: usize, j: usize) {
 }
 
 /// Links the slots that share a face.
-pub(crate) fn link_all(arena: &mut Arena) {
+fn link_all(arena: &mut Arena) {
     for i in 0..arena.slots() {
         for j in 0..i {
             link_places(arena, i, j);
         }
     }
+}
+
+/// An arena of these slots, with no neighbors.
+pub(crate) fn arena_of(alloc: Global, rows: &[[u32; 4]]) -> Result<Arena, Fail> {
+    let mut arena = Arena::new(alloc);
+    add_slots(&mut arena, rows)?;
+    Ok(arena)
+}
+
+/// An arena of these slots, linked where they share a face.
+pub(crate) fn linked_arena(alloc: Global, rows: &[[u32; 4]]) -> Result<Arena, Fail> {
+    let mut arena = arena_of(alloc, rows)?;
+    link_all(&mut arena);
+    Ok(arena)
 }

@@ -1,6 +1,6 @@
 //! Tangled cavities of a few points.
-ghost use Rattle.std.specs.Prelude.{◌≤ℤ◌, IsTrue, negsuc, pos};
-ghost use Rattle.geo_laws.specs.Delaunay.{IsOn};
+ghost use Rattle.std.specs.Prelude.{◌≤◌, ◌≤ℤ◌, IsTrue, IfSome, length, negsuc, pos};
+ghost use Rattle.geo_laws.specs.Delaunay.{IsOn, HasDistinctPoints, IsDelaunayList};
 ghost use Rattle.tangle_fill.specs.Fill.{AreFacetTriangles};
 ghost use Rattle.tangle_fill.specs.Sample.{IsPlaneTriangle};
 
@@ -11,6 +11,7 @@ use geo_laws::{Face, FacetTriangle, FacetTriangles, Points, Tet, TetList};
 use sign_predicates::GridPoint;
 use simplex_meets::is_triangle;
 use std::alloc::Global;
+use std::test::Fail;
 use tangle_fill::{FillFault, accepted, admissible, fill_tangle};
 use tet_ports::NoMemory;
 
@@ -121,39 +122,83 @@ enum End {
     Unfit,
 }
 
-/// Where the points with these facets end.
-fn end_of(alloc: Global, set: &[&[[i8; 3]]], corners: &[[u32; 3]]) -> Result<End, FillFault> {
-    let Some(points) = small_set(alloc, set) else {
-        return Ok(End::Unfit);
-    };
-    let triangles = triangles_of(alloc, corners)?;
+/// Points with their Delaunay list, and triangles of facets on them.
+#[derive(Drop)]
+struct Tangle {
+    points: Points,
+    list: TetList,
+    triangles: FacetTriangles,
+}
+
+/// The tangle of these points, if the triangles are on them.
+fn tangle_on(alloc: Global, points: Points, corners: &[[u32; 3]]) -> Option<Tangle>
+    requires distinct { HasDistinctPoints points }
+    requires few { length points ≤ 1000 }
+    ensures few { IfSome result (λ t. length t.points ≤ 1000) }
+    ensures facets { IfSome result (λ t. AreFacetTriangles t.points t.triangles) }
+    ensures list { IfSome result (λ t. IsDelaunayList t.points t.list) }
+{
+    let triangles = triangles_of(alloc, corners).ok()?;
     if !are_facet_triangles(&points, &triangles) {
-        return Ok(End::Unfit);
+        return None;
     }
-    let Ok(list) = delaunay(alloc, &points) else {
-        return Ok(End::Unfit);
-    };
-    if list.is_empty() {
-        return Ok(End::Unfit);
-    }
-    match fill_tangle(alloc, &points, &list, &triangles) {
-        Ok(rows) => Ok(End::Filled(rows.len())),
-        Err(FillFault::NoFill { anomaly: _ }) => Ok(End::Refused),
-        Err(FillFault::NoMemory) => Err(FillFault::NoMemory),
+    let list = delaunay(alloc, &points).ok()?;
+    Some(Tangle {
+        points,
+        list,
+        triangles,
+    })
+}
+
+/// The tangle of a set of points, if it is one.
+fn tangle_of(alloc: Global, set: &[&[[i8; 3]]], corners: &[[u32; 3]]) -> Option<Tangle>
+    ensures few { IfSome result (λ t. length t.points ≤ 1000) }
+    ensures facets { IfSome result (λ t. AreFacetTriangles t.points t.triangles) }
+    ensures list { IfSome result (λ t. IsDelaunayList t.points t.list) }
+{
+    match small_set(alloc, set) {
+        Some(points) => tangle_on(alloc, points, corners),
+        None => None,
     }
 }
 
-/// Whether the tetrahedron of the two plates is admissible; None where it may not be asked.
-fn is_admissible(alloc: Global, corners: [u32; 4]) -> Result<Option<bool>, NoMemory> {
-    let Some(points) = small_set(alloc, TWO_PLATES) else {
-        return Ok(None);
-    };
-    let triangles = triangles_of(alloc, &[[0, 1, 2], [3, 4, 5]])?;
-    let row = row(corners);
-    if is_on(&points, row) && are_facet_triangles(&points, &triangles) {
-        Ok(Some(admissible(&points, row, &triangles)))
+/// The list that fills a tangle.
+fn filled(alloc: Global, tangle: &Tangle) -> Result<TetList, FillFault>
+    requires few { length tangle.now.points ≤ 1000 }
+    requires facets { AreFacetTriangles tangle.now.points tangle.now.triangles }
+    requires list { IsDelaunayList tangle.now.points tangle.now.list }
+{
+    if tangle.list.is_empty() {
+        return Err(FillFault::NoMemory);
+    }
+    fill_tangle(alloc, &tangle.points, &tangle.list, &tangle.triangles)
+}
+
+/// Where a tangle ends.
+fn end_of(alloc: Global, tangle: &Tangle) -> End
+    requires few { length tangle.now.points ≤ 1000 }
+    requires facets { AreFacetTriangles tangle.now.points tangle.now.triangles }
+    requires list { IsDelaunayList tangle.now.points tangle.now.list }
+{
+    match filled(alloc, tangle) {
+        Ok(rows) => End::Filled(rows.len()),
+        Err(FillFault::NoFill { anomaly: _ }) => End::Refused,
+        Err(FillFault::NoMemory) => End::Unfit,
+    }
+}
+
+/// The facets of two plates.
+const PLATE_FACETS: [[u32; 3]; 2] = [[0, 1, 2], [3, 4, 5]];
+
+/// Whether a tetrahedron is admissible; None where it may not be asked.
+fn is_admissible(tangle: &Tangle, row: Tet) -> Option<bool>
+    requires few { length tangle.now.points ≤ 1000 }
+    requires facets { AreFacetTriangles tangle.now.points tangle.now.triangles }
+{
+    if is_on(&tangle.points, row) {
+        Some(admissible(&tangle.points, row, &tangle.triangles))
     } else {
-        Ok(None)
+        None
     }
 }
 
@@ -213,9 +258,9 @@ static SAMPLES: [Sample; 5] = [
 
 /// Whether the points with these facets end so.
 fn ends(alloc: Global, sample: &Sample) -> bool {
-    match end_of(alloc, sample.points, sample.facets) {
-        Ok(end) => end == sample.end,
-        Err(_) => false,
+    match tangle_of(alloc, sample.points, sample.facets) {
+        Some(tangle) => end_of(alloc, &tangle) == sample.end,
+        None => false,
     }
 }
 
@@ -238,14 +283,25 @@ static ROWS: [(&str, [u32; 4], bool); 8] = [
     ("not positive", [0, 1, 3, 2], false),
 ];
 
-#[test]
-fn admissible_on_two_plates(rt: HostRuntime) {
-    for (name, row, want) in &ROWS {
-        assert!(rt;
-            is_admissible(rt.alloc(), *row) == Ok(Some(*want)),
-            "{name}"
-        );
+/// The first row of the two plates that is admissible where it should not be, or not where it
+/// should.
+fn other_row(tangle: &Tangle) -> Option<&'static str>
+    requires few { length tangle.now.points ≤ 1000 }
+    requires facets { AreFacetTriangles tangle.now.points tangle.now.triangles }
+{
+    for (name, corners, wanted) in &ROWS {
+        if is_admissible(tangle, row(*corners)) != Some(*wanted) {
+            return Some(*name);
+        }
     }
+    None
+}
+
+#[test]
+fn admissible_on_two_plates(rt: HostRuntime) -> Result<(), Fail> {
+    let plates = tangle_of(rt.alloc(), TWO_PLATES, &PLATE_FACETS).ok_or("no tangle")?;
+    assert_eq!(rt; other_row(&plates), None);
+    Ok(())
 }
 
 /// The rows of the mesh of the two plates: below, above, and the three of the prism between them.
@@ -319,36 +375,63 @@ static CANDIDATES: [Candidate; 10] = [
     },
 ];
 
-/// Whether the list is accepted for the two plates; None where it may not be asked.
-fn is_accepted(alloc: Global, rows: &[[u32; 4]]) -> Result<Option<bool>, NoMemory> {
-    let Some(points) = small_set(alloc, TWO_PLATES) else {
-        return Ok(None);
-    };
-    let triangles = triangles_of(alloc, &[[0, 1, 2], [3, 4, 5]])?;
-    let mut candidate = TetList::new(alloc);
+fn list_of(alloc: Global, rows: &[[u32; 4]]) -> Result<TetList, NoMemory> {
+    let mut list = TetList::new(alloc);
     for corners in rows {
-        candidate.push(row(*corners))?;
+        list.push(row(*corners))?;
     }
-    if !are_facet_triangles(&points, &triangles) {
-        return Ok(None);
+    Ok(list)
+}
+
+/// Whether a list is accepted for a tangle.
+fn is_accepted(alloc: Global, tangle: &Tangle, candidate: TetList) -> Option<bool>
+    requires few { length tangle.now.points ≤ 1000 }
+    requires facets { AreFacetTriangles tangle.now.points tangle.now.triangles }
+    requires list { IsDelaunayList tangle.now.points tangle.now.list }
+{
+    match accepted(
+        alloc,
+        &tangle.points,
+        &tangle.list,
+        &tangle.triangles,
+        candidate,
+    ) {
+        Ok(found) => Some(found.is_some()),
+        Err(NoMemory) => None,
     }
-    let Ok(list) = delaunay(alloc, &points) else {
-        return Ok(None);
-    };
-    let found = accepted(alloc, &points, &list, &triangles, candidate)?;
-    Ok(Some(found.is_some()))
 }
 
 /// Whether the candidate is accepted or refused as it should be.
-fn is_told(alloc: Global, candidate: &Candidate) -> bool {
-    is_accepted(alloc, candidate.rows) == Ok(Some(candidate.is_accepted))
+fn is_told(alloc: Global, tangle: &Tangle, candidate: &Candidate) -> bool
+    requires few { length tangle.now.points ≤ 1000 }
+    requires facets { AreFacetTriangles tangle.now.points tangle.now.triangles }
+    requires list { IsDelaunayList tangle.now.points tangle.now.list }
+{
+    match list_of(alloc, candidate.rows) {
+        Ok(rows) => is_accepted(alloc, tangle, rows) == Some(candidate.is_accepted),
+        Err(NoMemory) => false,
+    }
+}
+
+/// The first candidate for the two plates with another answer.
+fn other_candidate(alloc: Global, tangle: &Tangle) -> Option<&'static str>
+    requires few { length tangle.now.points ≤ 1000 }
+    requires facets { AreFacetTriangles tangle.now.points tangle.now.triangles }
+    requires list { IsDelaunayList tangle.now.points tangle.now.list }
+{
+    for candidate in &CANDIDATES {
+        if !is_told(alloc, tangle, candidate) {
+            return Some(candidate.name);
+        }
+    }
+    None
 }
 
 #[test]
-fn candidates_on_two_plates(rt: HostRuntime) {
-    for candidate in &CANDIDATES {
-        assert!(rt; is_told(rt.alloc(), candidate), "{}", candidate.name);
-    }
+fn candidates_on_two_plates(rt: HostRuntime) -> Result<(), Fail> {
+    let plates = tangle_of(rt.alloc(), TWO_PLATES, &PLATE_FACETS).ok_or("no tangle")?;
+    assert_eq!(rt; other_candidate(rt.alloc(), &plates), None);
+    Ok(())
 }
 
 /// Two plates with three points near each.
@@ -371,46 +454,26 @@ const PLATES_AND_RINGS: [[i8; 3]; 12] = [
 const POINT_BETWEEN: Set = &[&PLATES_AND_RINGS, &[[0, 0, 1]]];
 
 /// The list for the plates without the point between them, if there is one.
-fn without_point(alloc: Global) -> Result<Option<TetList>, FillFault> {
-    let Some(points) = small_set(alloc, &[&PLATES_AND_RINGS]) else {
-        return Ok(None);
-    };
-    let triangles = triangles_of(alloc, &[[0, 1, 2], [3, 4, 5]])?;
-    if !are_facet_triangles(&points, &triangles) {
-        return Ok(None);
+fn without_point(alloc: Global) -> Option<TetList> {
+    match tangle_of(alloc, &[&PLATES_AND_RINGS], &PLATE_FACETS) {
+        Some(tangle) => filled(alloc, &tangle).ok(),
+        None => None,
     }
-    let Ok(list) = delaunay(alloc, &points) else {
-        return Ok(None);
-    };
-    if list.is_empty() {
-        return Ok(None);
-    }
-    Ok(Some(fill_tangle(alloc, &points, &list, &triangles)?))
 }
 
-/// Whether that list is accepted for the points with the one between them; None where it may not
-/// be asked.
-fn is_accepted_without(alloc: Global) -> Result<Option<bool>, FillFault> {
-    let Some(candidate) = without_point(alloc)? else {
-        return Ok(None);
-    };
-    let Some(points) = small_set(alloc, POINT_BETWEEN) else {
-        return Ok(None);
-    };
-    let triangles = triangles_of(alloc, &[[0, 1, 2], [3, 4, 5]])?;
-    if !are_facet_triangles(&points, &triangles) {
-        return Ok(None);
+/// Whether a list is accepted for the points with the one between the plates.
+fn is_accepted_with_point(alloc: Global, list: TetList) -> Option<bool> {
+    match tangle_of(alloc, POINT_BETWEEN, &PLATE_FACETS) {
+        Some(tangle) => is_accepted(alloc, &tangle, list),
+        None => None,
     }
-    let Ok(list) = delaunay(alloc, &points) else {
-        return Ok(None);
-    };
-    let found = accepted(alloc, &points, &list, &triangles, candidate)?;
-    Ok(Some(found.is_some()))
 }
 
 #[test]
-fn list_without_a_point_is_refused(rt: HostRuntime) {
-    assert!(rt; is_accepted_without(rt.alloc()) == Ok(Some(false)));
+fn list_without_a_point_is_refused(rt: HostRuntime) -> Result<(), Fail> {
+    let list = without_point(rt.alloc()).ok_or("no list")?;
+    assert!(rt; is_accepted_with_point(rt.alloc(), list) == Some(false));
+    Ok(())
 }
 
 /// An odd factor that takes small sets towards the ends of the grid: the power of two that all
@@ -443,32 +506,32 @@ fn far_points(alloc: Global, places: &[[i8; 3]]) -> Result<Points, NoMemory> {
     Ok(points)
 }
 
-/// The list that flips make for two plates, if they come to one.
-fn flipped(alloc: Global, points: &Points, list: &TetList) -> Result<Option<TetList>, NoMemory> {
-    let triangles = triangles_of(alloc, &[[0, 1, 2], [3, 4, 5]])?;
-    let found = candidate(alloc, points, list, &triangles)?;
-    Ok(found.map(|made| made.rows))
+/// The list that flips make for a tangle with its points at these places, if they come to one.
+fn flipped(alloc: Global, tangle: &Tangle, points: &Points) -> Option<TetList> {
+    let found = candidate(alloc, points, &tangle.list, &tangle.triangles).ok()?;
+    found.map(|made| made.rows)
 }
 
-/// Whether flips come to a list for the plates in a cloud, and to the same one far out.
-fn flips_alike_far_out(alloc: Global) -> Result<bool, NoMemory> {
-    let Some(points) = small_set(alloc, PLATES_IN_CLOUD) else {
-        return Ok(false);
-    };
-    let Ok(list) = delaunay(alloc, &points) else {
-        return Ok(false);
-    };
-    let Some(near) = flipped(alloc, &points, &list)? else {
-        return Ok(false);
-    };
-    let points = far_points(alloc, PLATES_IN_CLOUD[0])?;
-    match flipped(alloc, &points, &list)? {
-        Some(far) => Ok(near.as_slice() == far.as_slice()),
-        None => Ok(false),
+/// Whether flips come to this list with the points at these places.
+fn flips_to(alloc: Global, tangle: &Tangle, points: &Points, list: &TetList) -> bool {
+    match flipped(alloc, tangle, points) {
+        Some(rows) => rows.as_slice() == list.as_slice(),
+        None => false,
+    }
+}
+
+/// Whether flips come to a list for the tangle, and to the same one with its points far out.
+fn flips_alike(alloc: Global, tangle: &Tangle, far: &Points) -> bool {
+    match flipped(alloc, tangle, &tangle.points) {
+        Some(near) => flips_to(alloc, tangle, far, &near),
+        None => false,
     }
 }
 
 #[test]
-fn flips_far_out(rt: HostRuntime) {
-    assert!(rt; flips_alike_far_out(rt.alloc()) == Ok(true));
+fn flips_far_out(rt: HostRuntime) -> Result<(), Fail> {
+    let far = far_points(rt.alloc(), PLATES_IN_CLOUD[0])?;
+    let cloud = tangle_of(rt.alloc(), PLATES_IN_CLOUD, &PLATE_FACETS).ok_or("no tangle")?;
+    assert!(rt; flips_alike(rt.alloc(), &cloud, &far));
+    Ok(())
 }

@@ -3,13 +3,12 @@ ghost use Rattle.std.specs.Prelude.{IsTrue};
 ghost use Rattle.mesh_arena.specs.Mesh.{IsLive, corner_list};
 ghost use Rattle.point_locate.specs.Place.{IsCornerOn, AreOn, AreCornersOn};
 
-use crate::tests::slots::{GHOST, add_slots, link_all};
+use crate::tests::slots::{GHOST, arena_of, linked_arena};
 use crate::tests::small_sets::{grid_point, points_of};
 use geo_laws::Points;
 use mesh_arena::{Arena, Corner, Slot, SlotCorners};
 use point_locate::{Place, locate, scan};
 use sign_predicates::GridPoint;
-use std::alloc::Global;
 use std::test::Fail;
 
 fn is_on(points: &Points, corner: Corner) -> bool
@@ -41,14 +40,16 @@ fn are_corners_on(arena: &Arena, points: &Points) -> bool
 }
 
 // The place of a point, by the place of its slot in the arena.
-#[derive(Clone, Copy, Debug, PartialEq, Eq)]
+#[derive(Clone, Copy, PartialEq, Eq)]
 enum SlotPlace {
     Inside(u32),
     Beyond(u32),
 }
 
-// Where a point is found from the slot at a place.
-fn found_from(arena: &Arena, points: &Points, start: usize, p: GridPoint) -> Option<SlotPlace> {
+// Where a point is found from the slot at a place, if it is somewhere.
+fn found_from(arena: &Arena, points: &Points, start: usize, p: GridPoint) -> Option<SlotPlace>
+    requires { AreCornersOn arena.now.slots points.now }
+{
     if start >= arena.slots() {
         return None;
     }
@@ -58,17 +59,35 @@ fn found_from(arena: &Arena, points: &Points, start: usize, p: GridPoint) -> Opt
     }
 }
 
-// Where a point is found from a slot, if the corners are points and it is somewhere.
+// Where a point is found from a slot, if it is somewhere.
 fn found(arena: &Arena, points: &Points, start: Slot, p: GridPoint) -> Option<Place>
-    requires { IsLive arena.now.slots start.index }
+    requires start { IsLive arena.now.slots start.index }
+    requires corners { AreCornersOn arena.now.slots points.now }
 {
-    if !are_corners_on(arena, points) {
-        return None;
-    }
     match scan(arena, points, p) {
         Some(_) => Some(locate(arena, points, start, p)),
         None => None,
     }
+}
+
+// A point, and its place.
+type PlaceCase = ([i8; 3], SlotPlace);
+
+// The first point that is found elsewhere from the slot at a place; or where a corner is no point,
+// the first one.
+fn other_place(
+    arena: &Arena,
+    points: &Points,
+    start: usize,
+    cases: &[PlaceCase],
+) -> Option<[i8; 3]> {
+    let are_on = are_corners_on(arena, points);
+    for (p, want) in cases {
+        if !are_on || found_from(arena, points, start, grid_point(*p)) != Some(*want) {
+            return Some(*p);
+        }
+    }
+    None
 }
 
 // The points of the tetrahedron.
@@ -84,15 +103,7 @@ const ONE: [[u32; 4]; 5] = [
     [0, GHOST, 2, 1],
 ];
 
-// The place of a point in the mesh of one tetrahedron.
-fn in_one(alloc: Global, p: GridPoint) -> Result<Option<SlotPlace>, Fail> {
-    let points = points_of(alloc, &[&CORNER])?;
-    let mut arena = Arena::new(alloc);
-    add_slots(&mut arena, &ONE)?;
-    Ok(found_from(&arena, &points, 0, p))
-}
-
-static PLACES_IN_ONE: [([i8; 3], SlotPlace); 7] = [
+static PLACES_IN_ONE: [PlaceCase; 7] = [
     ([1, 1, 1], SlotPlace::Inside(0)),
     ([0, 0, 0], SlotPlace::Inside(0)),
     ([0, 2, 2], SlotPlace::Inside(0)),
@@ -104,12 +115,9 @@ static PLACES_IN_ONE: [([i8; 3], SlotPlace); 7] = [
 
 #[test]
 fn points_in_and_round_a_tetrahedron(rt: HostRuntime) -> Result<(), Fail> {
-    for ([x, y, z], want) in &PLACES_IN_ONE {
-        assert!(rt;
-            in_one(rt.alloc(), grid_point([*x, *y, *z]))? == Some(*want),
-            "{x} {y} {z}"
-        );
-    }
+    let points = points_of(rt.alloc(), &[&CORNER])?;
+    let arena = arena_of(rt.alloc(), &ONE)?;
+    assert_eq!(rt; other_place(&arena, &points, 0, &PLACES_IN_ONE), None);
     Ok(())
 }
 
@@ -139,21 +147,7 @@ fn are_linked(arena: &Arena) -> bool {
     true
 }
 
-// Where a point is found in two tetrahedra and round them by a walk from the slot at a place; None
-// where some face has no neighbor.
-fn in_two(alloc: Global, start: usize, p: GridPoint) -> Result<Option<SlotPlace>, Fail> {
-    let points = points_of(alloc, &[&CORNER, &[[4, 4, 4]]])?;
-    let mut arena = Arena::new(alloc);
-    add_slots(&mut arena, &TWO)?;
-    link_all(&mut arena);
-    if are_linked(&arena) {
-        Ok(found_from(&arena, &points, start, p))
-    } else {
-        Ok(None)
-    }
-}
-
-static PLACES_IN_TWO: [([i8; 3], SlotPlace); 10] = [
+static PLACES_IN_TWO: [PlaceCase; 10] = [
     ([1, 1, 1], SlotPlace::Inside(0)),
     ([0, 0, 1], SlotPlace::Inside(0)),
     ([2, 2, 2], SlotPlace::Inside(1)),
@@ -166,23 +160,16 @@ static PLACES_IN_TWO: [([i8; 3], SlotPlace); 10] = [
     ([4, 4, 1], SlotPlace::Beyond(7)),
 ];
 
-/// Whether a walk from each slot finds a point there.
-fn are_walks(alloc: Global, p: GridPoint, want: SlotPlace) -> Result<bool, Fail> {
-    for start in 0..TWO.len() {
-        if in_two(alloc, start, p)? != Some(want) {
-            return Ok(false);
-        }
-    }
-    Ok(true)
-}
-
+// From each slot to a point in each tetrahedron, and to one strictly beyond each hull face.
 #[test]
 fn walks_through_linked_slots(rt: HostRuntime) -> Result<(), Fail> {
-    // From each slot to a point in each tetrahedron, and to one strictly beyond each hull face.
-    for ([x, y, z], want) in &PLACES_IN_TWO {
+    let points = points_of(rt.alloc(), &[&CORNER, &[[4, 4, 4]]])?;
+    let arena = linked_arena(rt.alloc(), &TWO)?;
+    assert!(rt; are_linked(&arena));
+    for start in 0..TWO.len() {
         assert!(rt;
-            are_walks(rt.alloc(), grid_point([*x, *y, *z]), *want)?,
-            "{x} {y} {z}"
+            other_place(&arena, &points, start, &PLACES_IN_TWO).is_none(),
+            "{start}"
         );
     }
     Ok(())

@@ -1,39 +1,48 @@
 //! Point lists with weights, from their text to the regular mesh.
-ghost use Rattle.std.specs.Prelude.{◌≡◌, ◌≤◌, length, IfSome};
+ghost use Rattle.std.specs.Prelude.{◌≡◌, ◌≤◌, length, IfOk};
+ghost use Rattle.node_files.specs.Node.{IsNodeText};
 ghost use Rattle.node_files.specs.Limits.{tetgen_limits};
 ghost use Rattle.node_files.specs.Writing.{IsNodeTable};
 
 use crate::tests::small_sets::are_rows;
-use node_files::{GridOptions, Limits, NodeTable, read_node, settle};
+use node_files::{GridOptions, Limits, NodeFault, NodeTable, NodeText, read_node, settle};
 use std::alloc::Global;
 use tet_ports::Bytes;
 use tet_text::{TextFault, TextKind};
 use weighted_mesh::{RegularFault, RegularMesh, regular_mesh};
 
-/// The point list of a text, on its grid.
-fn table(alloc: Global, text: &[u8]) -> Option<NodeTable>
-    ensures table { IfSome result IsNodeTable }
-    ensures few { IfSome result (λ table. length table.listed ≤ tetgen_limits.points) }
+/// The point list of a text.
+fn read(alloc: Global, text: &[u8]) -> Result<NodeText, NodeFault>
+    ensures { IfOk result IsNodeText }
 {
-    let bytes = Bytes::from_slice(alloc, text).ok()?;
+    let bytes = Bytes::from_slice(alloc, text)?;
     if bytes.len() > 1000 {
-        return None;
+        return Err(NodeFault::NoMemory);
     }
-    let list = read_node(alloc, &bytes).ok()?;
-    let options = GridOptions {
-        decimals: None,
-        halvings: 12,
-    };
-    settle(alloc, Limits::tetgen(), list, &options).ok()
+    read_node(alloc, &bytes)
+}
+
+const OPTIONS: GridOptions = GridOptions {
+    decimals: None,
+    halvings: 12,
+};
+
+/// The point list of a text, on its grid.
+fn table(alloc: Global, text: &[u8]) -> Result<NodeTable, NodeFault>
+    ensures table { IfOk result IsNodeTable }
+    ensures few { IfOk result (λ table. length table.listed ≤ tetgen_limits.points) }
+{
+    settle(alloc, Limits::tetgen(), read(alloc, text)?, &OPTIONS)
 }
 
 /// The regular mesh of the point list of a text.
 fn mesh(alloc: Global, text: &[u8]) -> Option<Result<RegularMesh, RegularFault>> {
-    let table = table(alloc, text)?;
-    if table.decimals.len() != table.listed.len() {
-        return None;
+    match table(alloc, text) {
+        Ok(table) if table.decimals.len() == table.listed.len() => {
+            Some(regular_mesh(alloc, &table))
+        }
+        _ => None,
     }
-    Some(regular_mesh(alloc, &table))
 }
 
 /// Whether the text has a regular mesh with the rows `want` that hides `hidden` points.
