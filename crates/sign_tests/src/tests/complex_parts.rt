@@ -6,6 +6,7 @@ use crate::tests::simplex_places::places;
 use geo_laws::{Face, FacetTriangle, FacetTriangles, Piece, Pieces, Points, Side};
 use simplex_meets::{Part, PlaneFault, crossings, is_segment, is_triangle};
 use std::alloc::Global;
+use std::test::Fail;
 use tet_ports::NoMemory;
 
 fn triangle(f: [u32; 3]) -> FacetTriangle {
@@ -161,36 +162,55 @@ static CASES: [Case; 15] = [
     },
 ];
 
-fn told(answer: Result<(), PlaneFault>) -> Result<Option<[[u32; 3]; 2]>, NoMemory> {
+/// Whether the answer of `crossings` names these first two parts, or none.
+fn is_told(answer: Result<(), PlaneFault>, first: Option<[[u32; 3]; 2]>) -> bool {
     match answer {
-        Ok(()) => Ok(None),
-        Err(PlaneFault::Crossing { one, two }) => Ok(Some([corners_of(one), corners_of(two)])),
-        Err(PlaneFault::NoMemory) => Err(NoMemory),
+        Ok(()) => first.is_none(),
+        Err(PlaneFault::Crossing { one, two }) => first == Some([corners_of(one), corners_of(two)]),
+        Err(PlaneFault::NoMemory) => false,
     }
 }
 
-/// The answer of `crossings`; None where its requirements fail.
-fn crossing(alloc: Global, case: &Case) -> Result<Option<Option<[[u32; 3]; 2]>>, NoMemory> {
-    let points = places(alloc)?;
+fn triangles_of(alloc: Global, corners: &[[u32; 3]]) -> Result<FacetTriangles, NoMemory> {
     let mut triangles = FacetTriangles::new(alloc);
-    for f in case.triangles {
+    for f in corners {
         triangles.push(triangle(*f))?;
     }
+    Ok(triangles)
+}
+
+fn pieces_of(alloc: Global, ends: &[[u32; 2]]) -> Result<Pieces, NoMemory> {
     let mut pieces = Pieces::new(alloc);
-    for s in case.pieces {
+    for s in ends {
         pieces.push(piece(*s))?;
     }
-    if are_triangles(&points, &triangles) && are_segments(&points, &pieces) {
-        Ok(Some(told(crossings(alloc, &points, &pieces, &triangles))?))
-    } else {
-        Ok(None)
+    Ok(pieces)
+}
+
+/// Whether the requirements of `crossings` hold of these triangles and the pieces of a case, and it
+/// answers as the case says.
+fn has_first(alloc: Global, points: &Points, triangles: &FacetTriangles, case: &Case) -> bool {
+    match pieces_of(alloc, case.pieces) {
+        Ok(pieces) => are_triangles(points, triangles)
+            && are_segments(points, &pieces)
+            && is_told(crossings(alloc, points, &pieces, triangles), case.first),
+        Err(NoMemory) => false,
+    }
+}
+
+/// As `has_first`, for the triangles of the case.
+fn is_as_said(alloc: Global, points: &Points, case: &Case) -> bool {
+    match triangles_of(alloc, case.triangles) {
+        Ok(triangles) => has_first(alloc, points, &triangles, case),
+        Err(NoMemory) => false,
     }
 }
 
 #[test]
-fn first_crossings(rt: HostRuntime) {
-    let alloc = rt.alloc();
+fn first_crossings(rt: HostRuntime) -> Result<(), Fail> {
+    let points = places(rt.alloc())?;
     for (i, case) in CASES.iter().enumerate() {
-        assert_eq!(rt; crossing(alloc, case), Ok(Some(case.first)), "case {i}");
+        assert!(rt; is_as_said(rt.alloc(), &points, case), "case {i}");
     }
+    Ok(())
 }
