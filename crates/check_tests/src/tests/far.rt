@@ -3,7 +3,8 @@
 use far_meshes::check_far_files;
 use mesh_check::{CheckFault, Defect};
 use std::alloc::Global;
-use tet_ports::{Bytes, MemFolder, Name};
+use std::test::Fail;
+use tet_ports::{Bytes, MemFolder, Name, NoMemory};
 
 /// One tetrahedron whose corners are on a grid of 6400 parts of the unit, far from zero.
 const FAR: &[u8] = b"4 3 0 0\n\
@@ -42,20 +43,25 @@ static CASES: [(&[u8], &[u8], Found); 4] = [
     (LONG, ROW, Found::OffGrid(3)),
 ];
 
-fn put(alloc: Global, folder: &mut MemFolder, name: &[u8], text: &[u8]) -> Option<()> {
-    let name = Name::from_slice(alloc, name).ok()?;
-    let text = Bytes::from_slice(alloc, text).ok()?;
-    folder.add(&name, &text).ok()
+fn put(alloc: Global, folder: &mut MemFolder, name: &[u8], text: &[u8]) -> Result<(), NoMemory> {
+    let name = Name::from_slice(alloc, name)?;
+    let text = Bytes::from_slice(alloc, text)?;
+    folder.add(&name, &text)
 }
 
-fn finding(alloc: Global, node: &[u8], ele: &[u8]) -> Option<Found> {
+const FACES: &[u8] = b"4 0\n0 0 1 2\n1 0 1 3\n2 0 2 3\n3 1 2 3\n";
+
+/// A folder with the files of a mesh of one tetrahedron.
+fn folder_of(alloc: Global, node: &[u8], ele: &[u8]) -> Result<MemFolder, NoMemory> {
     let mut folder = MemFolder::new(alloc);
     put(alloc, &mut folder, b"t.node", node)?;
     put(alloc, &mut folder, b"t.ele", ele)?;
-    let faces = b"4 0\n0 0 1 2\n1 0 1 3\n2 0 2 3\n3 1 2 3\n";
-    put(alloc, &mut folder, b"t.face", faces)?;
-    let base = Name::from_slice(alloc, b"t").ok()?;
-    Some(match check_far_files(alloc, &base, &mut folder) {
+    put(alloc, &mut folder, b"t.face", FACES)?;
+    Ok(folder)
+}
+
+fn checked(alloc: Global, folder: &mut MemFolder, base: &Name) -> Found {
+    match check_far_files(alloc, base, folder) {
         Ok(count) => Found::Sound(count),
         Err(CheckFault::OffGrid { line }) => Found::OffGrid(line),
         Err(
@@ -65,12 +71,20 @@ fn finding(alloc: Global, node: &[u8], ele: &[u8]) -> Option<Found> {
             },
         ) => Found::NotPositive(row),
         Err(_) => Found::Other,
-    })
+    }
+}
+
+/// What the check of the mesh in a folder finds.
+fn finding(alloc: Global, folder: &mut MemFolder) -> Result<Found, NoMemory> {
+    let base = Name::from_slice(alloc, b"t")?;
+    Ok(checked(alloc, folder, &base))
 }
 
 #[test]
-fn far_meshes_are_checked(rt: HostRuntime) {
+fn far_meshes_are_checked(rt: HostRuntime) -> Result<(), Fail> {
     for (i, (node, ele, want)) in CASES.iter().enumerate() {
-        assert!(rt; finding(rt.alloc(), node, ele) == Some(*want), "mesh {i}");
+        let mut folder = folder_of(rt.alloc(), node, ele)?;
+        assert!(rt; finding(rt.alloc(), &mut folder) == Ok(*want), "mesh {i}");
     }
+    Ok(())
 }

@@ -155,17 +155,9 @@ fn is_found(alloc: Global, case: &Case) -> bool {
     verdict(alloc, case) == Some(case.verdict)
 }
 
-/// The place of the first case with another verdict.
-fn first_other(alloc: Global) -> Option<usize> {
-    for (i, case) in CASES.iter().enumerate() {
-        if !is_found(alloc, case) {
-            return Some(i);
-        }
-    }
-    None
-}
-
 #[test]
 fn meshes_are_checked(rt: HostRuntime) {
-    assert_eq!(rt; first_other(rt.alloc()), None);
+    for (i, case) in CASES.iter().enumerate() {
+        assert!(rt; is_found(rt.alloc(), case), "case {i}");
+    }
 }
