@@ -54,6 +54,12 @@ RefinedAnswer shapes options bound (Ok outputs) =
     × AreCorners (length bound.table.points) (length more) mesh.tetrahedra × AreCountedOf shapes options mesh outputs
 RefinedAnswer shapes options bound (Err status) = status ≡ NoMemory
 
+-- the outputs of a mesh of an input that has none without further points
+abbrev pub ConformingMeshed : Goal → Limits → Options → Input → Outputs → Type 0
+ConformingMeshed goal limits options input outputs =
+    (bound : Bound) × BoundAnswer limits options input (Ok bound)
+    × RefinedAnswer (shape_bounds bound goal (limits_of input.complex)) options bound (Ok outputs)
+
 -- The complex has a mesh without further points, and then there are outputs of one with some. Each refusal is one of the first
 abbrev pub RefinedMade : ShapeBounds → Options → Bound → Result Outputs Status → Type 0
 RefinedMade shapes options bound = AndThen (MeshAnswer options bound) (λ plain. RefinedAnswer shapes options bound)

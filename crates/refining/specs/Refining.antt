@@ -24,12 +24,16 @@ abbrev pub IsTurn : Options → Bound → Turn → Type 0
 IsTurn options bound (More taken) = IsTakenMesh options bound taken
 IsTurn options bound turn = Unit {0}
 
--- The complex has a mesh without further points. The answer is a mesh with the points that were added, and without any
--- where none was
-pub record IsRefinedTo (options : Options) (bound : Bound) (bounds : Bounds) (refined : Refined) : Type 0 where
-  pub plain : Meshed
-  pub plain_is : MeshOf true options bound (Ok plain)
+-- A mesh of the complex with the points that were added, each of which is a corner; without any it is that of a run
+pub record IsRefinedBehind (options : Options) (bound : Bound) (refined : Refined) : Type 0 where
   pub answer : MeshAnswerWith refined.added refined.halvings options bound refined.mesh
   pub corners : AreCorners (length bound.table.points) (length refined.added) refined.mesh.tetrahedra
   pub same : refined.added ≡ [] → MeshOf true options bound (Ok refined.mesh)
+
+-- The complex has a mesh without further points. The answer is one with the points that were added, and without any where
+-- none was
+pub record IsRefinedTo (options : Options) (bound : Bound) (bounds : Bounds) (refined : Refined) : Type 0 where
+  pub plain : Meshed
+  pub plain_is : MeshOf true options bound (Ok plain)
+  pub behind : IsRefinedBehind options bound refined
   pub rounds : refined.rounds ≤ bounds.rounds

@@ -5,6 +5,7 @@
 mod add_fault;
 mod addable;
 mod behind;
+mod conforming;
 mod corners;
 mod counts;
 mod goal;
@@ -27,7 +28,7 @@ mod worst;
 pub use counts::Counts;
 pub use goal::{Goal, Shape, ShapeBounds, shape_bounds};
 pub use meshable::law_meshable;
-pub use outputs::refined_outputs;
+pub use outputs::{conforming_outputs, refined_outputs};
 pub use plain::law_plain;
 pub use propose::Propose;
 pub use quality::Quality;

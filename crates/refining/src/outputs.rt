@@ -1,23 +1,24 @@
 //! The files and the summary of a refined mesh.
 
-ghost use Rattle.std.specs.Prelude.{◌≡◌, true, All, IfSome};
+ghost use Rattle.std.specs.Prelude.{◌≡◌, true, All, IfOk, IfSome, Ok};
 ghost use Rattle.geo_laws.specs.Delaunay.{IsOn};
 ghost use Rattle.node_files.specs.Writing.{IsNearGrid};
 ghost use Rattle.run_steps.specs.Meshing.{IsMeshableBound};
 ghost use Rattle.run_steps.specs.Outputs.{IsWritable};
 ghost use Rattle.tet_shapes.specs.Shape.{IsFine};
-ghost use Rattle.refining.specs.Outputs.{CountedAnswer, RefinedMade, counted_told, counts_in};
-ghost use Rattle.refining.specs.Outputs.{with_counts};
+ghost use Rattle.refining.specs.Outputs.{CountedAnswer, RefinedAnswer, RefinedMade};
+ghost use Rattle.refining.specs.Outputs.{counted_told, counts_in, with_counts};
 ghost use Rattle.refining.specs.Rounds.{AreShown};
 
 use crate::counts::{Counts, Marked, counts_of};
 use crate::goal::ShapeBounds;
 use crate::propose::Propose;
-use crate::refining::{Bounds, refine};
+use crate::refining::{Bounds, refine, refine_conforming};
 use crate::watch::Watch;
 use command_words::Options;
 use run_steps::{Bound, HulledMesh, Meshed, Outputs, Report, Status, outputs_of};
 use std::alloc::Global;
+use tet_ports::NoMemory;
 
 /// The report of a mesh with these counts.
 fn counted_told(report: Report, counts: Counts) -> Report
@@ -111,5 +112,30 @@ pub fn refined_outputs<P: Propose, W: Watch>(
     match refine(alloc, options, bound, bounds, proposer, watch) {
         Ok(refined) => counted_outputs(alloc, options, refined.mesh, bounds.shapes),
         Err(fault) => Err(Status::from(fault)),
+    }
+}
+
+/// As `refined_outputs`, of a complex that has no mesh without further points: the outputs of one
+/// with points on its segments, where it has one. It refuses only when out of memory.
+pub fn conforming_outputs<P: Propose, W: Watch>(
+    alloc: Global,
+    options: &Options,
+    bound: Bound,
+    bounds: &Bounds<'_>,
+    proposer: &mut P,
+    watch: &mut W,
+) -> Result<Option<Outputs>, NoMemory>
+    requires bound { IsMeshableBound options.now bound }
+    requires fine { IfSome bounds.now.shapes.now.ratio IsFine }
+    ensures made { IfOk result (λ made. IfSome made
+        (λ outputs. RefinedAnswer bounds.now.shapes.now options.now bound (Ok outputs))) }
+    ensures shown { AreShown W.shown bounds.now.shapes.now options.now bound watch.old watch.new }
+{
+    let Some(refined) = refine_conforming(alloc, options, bound, bounds, proposer, watch)? else {
+        return Ok(None);
+    };
+    match counted_outputs(alloc, options, refined.mesh, bounds.shapes) {
+        Ok(outputs) => Ok(Some(outputs)),
+        Err(_) => Err(NoMemory),
     }
 }

@@ -5,11 +5,12 @@ ghost use Rattle.std.specs.Prelude.{◌≡◌, ◌≤◌, ◌<◌, ◌^◌, leng
 ghost use Rattle.run_steps.specs.Meshing.{IsMeshableBound, IsUnmeshed};
 ghost use Rattle.run_steps.specs.Outputs.{IsWritable};
 ghost use Rattle.run_steps.specs.Codes.{status_of_fault};
-ghost use Rattle.refining.specs.Refining.{IsRefinedTo, IsTakenMesh, IsTurn};
+ghost use Rattle.refining.specs.Refining.{IsRefinedBehind, IsRefinedTo, IsTakenMesh, IsTurn};
 ghost use Rattle.refining.specs.Rounds.{AreShown, frame_of};
 ghost use Rattle.tet_shapes.specs.Shape.{IsFine};
 
 use crate::addable::addable;
+use crate::conforming::conforming_points;
 use crate::corners::are_corners;
 use crate::goal::ShapeBounds;
 use crate::meshing::{mesh_plain, mesh_with};
@@ -115,6 +116,19 @@ struct Task<'a> {
     bounds: &'a Bounds<'a>,
 }
 
+/// How often a segment may be halved where points are added to a mesh, or its added points are
+/// replaced: as often as there, and as often as the bounds tell where it has none.
+fn halvings_behind(bound: &Bound, bounds: &Bounds<'_>, taken: &Taken) -> u32
+    ensures { result ≤ bound.now.table.grid.halvings }
+{
+    let halvings = if taken.added.is_empty() {
+        bounds.halvings
+    } else {
+        taken.halvings
+    };
+    halvings.min(bound.table.grid.halvings)
+}
+
 /// How the points of a round are chosen.
 #[derive(Clone, Copy)]
 struct Step {
@@ -131,10 +145,10 @@ struct Step {
 const MORE_HALVINGS: u32 = 2;
 
 impl Step {
-    /// The first step of a refinement.
-    fn first(bound: &Bound, bounds: &Bounds<'_>) -> Step {
+    /// The first step of a refinement from a mesh: the points that it has stay multiples.
+    fn first(bound: &Bound, bounds: &Bounds<'_>, taken: &Taken) -> Step {
         Step {
-            halvings: bounds.halvings.min(bound.table.grid.halvings),
+            halvings: halvings_behind(bound, bounds, taken),
             part: Part::whole(&bound.table.points),
             refused: 0,
             is_spent: false,
@@ -283,8 +297,8 @@ fn taken_last<P: Propose, W: Watch>(
         task.entry.bound.now watch.old watch.new }
 {
     let Task { bound, bounds, .. } = task;
+    let mut step = Step::first(bound, bounds, &first);
     let mut taken = first;
-    let mut step = Step::first(bound, bounds);
     for rounds in 0..bounds.rounds {
         match next_taken(alloc, task, &step, &taken, proposer)? {
             Turn::Done => return Ok(Rounds { taken, rounds }),
@@ -309,19 +323,6 @@ fn taken_last<P: Propose, W: Watch>(
 
 /// The most rounds in which the added points are replaced.
 const IMPROVEMENTS: u32 = 6;
-
-/// How often a segment may be halved where the added points of a mesh are replaced: as often as
-/// there, and as often as the bounds tell where it has none.
-fn halvings_behind(bound: &Bound, bounds: &Bounds<'_>, taken: &Taken) -> u32
-    ensures { result ≤ bound.now.table.grid.halvings }
-{
-    let halvings = if taken.added.is_empty() {
-        bounds.halvings
-    } else {
-        taken.halvings
-    };
-    halvings.min(bound.table.grid.halvings)
-}
 
 /// A mesh with other points in place of those of `taken` in a part of the model, where some are
 /// proposed and the complex has a mesh with them.
@@ -432,6 +433,34 @@ fn best_of<P: Propose, W: Watch>(
     Ok(Rounds { taken, rounds })
 }
 
+/// What is refined, from the mesh of the last round.
+fn refined_by(
+    alloc: Global,
+    options: &Options,
+    bound: Bound,
+    last: Rounds,
+) -> Result<Refined, NoMemory>
+    requires bound { IsMeshableBound options.now bound }
+    requires taken { IsTakenMesh options.now bound last.taken }
+    ensures behind { IfOk result (IsRefinedBehind options.now bound) }
+    ensures rounds { IfOk result (λ refined. refined.rounds ≡ last.rounds) }
+    ensures writable { IfOk result (λ refined. IsWritable refined.mesh) }
+{
+    let Rounds { taken, rounds } = last;
+    let Taken {
+        added,
+        halvings,
+        made,
+    } = taken;
+    let mesh = placed(alloc, options, bound, made)?;
+    Ok(Refined {
+        added,
+        halvings,
+        mesh,
+        rounds,
+    })
+}
+
 /// The mesh of a complex with the points that are proposed, round by round: each round's points are
 /// kept where the complex has a mesh with them. The rounds end where no point is added, or at the
 /// bounds; then the added points are replaced where this is better. `watch` is shown each mesh. It
@@ -462,17 +491,95 @@ pub(crate) fn refine<P: Propose, W: Watch>(
         bound: &bound,
         bounds,
     };
-    let Rounds { taken, rounds } = best_of(alloc, task, first, proposer, watch)?;
-    let Taken {
-        added,
-        halvings,
-        made,
-    } = taken;
-    let mesh = placed(alloc, options, bound, made)?;
-    Ok(Refined {
-        added,
-        halvings,
-        mesh,
-        rounds,
-    })
+    let last = best_of(alloc, task, first, proposer, watch)?;
+    let refined = refined_by(alloc, options, bound, last)?;
+    Ok(refined)
+}
+
+/// The mesh of a complex with points on its segments by which its subsegments are edges, where it
+/// has one; the coordinates of the points are multiples of `2^halvings` grid units.
+fn conformed_with(alloc: Global, task: Task<'_>, halvings: u32) -> Result<Option<Taken>, NoMemory>
+    requires bound { IsMeshableBound task.options.now task.bound.now }
+    requires halvings { halvings ≤ task.bound.now.table.grid.halvings }
+    ensures { IfOk result
+        (λ made. IfSome made (IsTakenMesh task.entry.options.now task.entry.bound.now)) }
+{
+    let Task {
+        options,
+        bound,
+        bounds,
+    } = task;
+    let most = most_of(bounds);
+    let proposed = conforming_points(alloc, options, bound, halvings, most)?;
+    let points = &bound.table.points;
+    let none = Points::new(alloc);
+    let added = addable(alloc, points, &none, &proposed, halvings, bounds.added)?;
+    if added.is_empty() {
+        return Ok(None);
+    }
+    match meshed(alloc, options, bound, added, halvings, most)? {
+        Turn::More(taken) => Ok(Some(taken)),
+        _ => Ok(None),
+    }
+}
+
+/// The mesh of a complex with points on its segments: at places that leave halvings to protection,
+/// or else at any places of the grid.
+fn conformed(alloc: Global, task: Task<'_>) -> Result<Option<Taken>, NoMemory>
+    requires bound { IsMeshableBound task.options.now task.bound.now }
+    ensures { IfOk result
+        (λ made. IfSome made (IsTakenMesh task.entry.options.now task.entry.bound.now)) }
+{
+    let halvings = task.bounds.halvings.min(task.bound.table.grid.halvings);
+    if let Some(taken) = conformed_with(alloc, task, halvings)? {
+        return Ok(Some(taken));
+    }
+    conformed_with(alloc, task, 0)
+}
+
+/// The rounds of a complex from its mesh with points on its segments, where it has one.
+fn conforming_rounds<P: Propose, W: Watch>(
+    alloc: Global,
+    task: Task<'_>,
+    proposer: &mut P,
+    watch: &mut W,
+) -> Result<Option<Rounds>, NoMemory>
+    requires bound { IsMeshableBound task.options.now task.bound.now }
+    requires fine { IfSome task.bounds.now.shapes.now.ratio IsFine }
+    ensures taken { IfOk result (λ made. IfSome made (λ last.
+        IsTakenMesh task.entry.options.now task.entry.bound.now last.taken)) }
+    ensures shown { AreShown W.shown task.entry.bounds.now.shapes.now task.entry.options.now
+        task.entry.bound.now watch.old watch.new }
+{
+    let Some(first) = conformed(alloc, task)? else {
+        return Ok(None);
+    };
+    Ok(Some(best_of(alloc, task, first, proposer, watch)?))
+}
+
+/// As `refine`, of a complex that has no mesh without further points, where it has one with points
+/// on its segments, which are the first that are added.
+pub(crate) fn refine_conforming<P: Propose, W: Watch>(
+    alloc: Global,
+    options: &Options,
+    bound: Bound,
+    bounds: &Bounds<'_>,
+    proposer: &mut P,
+    watch: &mut W,
+) -> Result<Option<Refined>, NoMemory>
+    requires bound { IsMeshableBound options.now bound }
+    requires fine { IfSome bounds.now.shapes.now.ratio IsFine }
+    ensures behind { IfOk result (λ made. IfSome made (IsRefinedBehind options.now bound)) }
+    ensures writable { IfOk result (λ made. IfSome made (λ refined. IsWritable refined.mesh)) }
+    ensures shown { AreShown W.shown bounds.now.shapes.now options.now bound watch.old watch.new }
+{
+    let task = Task {
+        options,
+        bound: &bound,
+        bounds,
+    };
+    let Some(last) = conforming_rounds(alloc, task, proposer, watch)? else {
+        return Ok(None);
+    };
+    Ok(Some(refined_by(alloc, options, bound, last)?))
 }

@@ -4,10 +4,10 @@ use Rattle.std.specs.Prelude.{◌≢◌}
 use Rattle.box_tree.proofs.Lists.{less_or_more}
 use Rattle.command_words.specs.declared.options.Extension.{Extension}
 use Rattle.command_words.specs.declared.options.Options.{Options}
-use Rattle.tetfit_run.specs.Measured.{MovedAnswer, tried}
+use Rattle.tetfit_run.specs.Measured.{MovedAnswer, tried, with_origin}
 use Rattle.tetfit_run.specs.Models.{ModelAnswer, ModelBy, ReadAnswer, SurfaceAnswer, named_surface, surface_text_of}
 use Rattle.tetfit_run.specs.Trying.{IsFitted, at_decimals, is_of_grid}
-use Rattle.tetfit_run.specs.Words.{fit_fault, others, request_of}
+use Rattle.tetfit_run.specs.Words.{fit_fault, fit_goal, fit_options, others, request_of}
 use Rattle.tetfit_run.specs.declared.request.Request.{Request}
 use Rattle.tetfit_run.specs.declared.request.Request.TheVariants.{Page, Version, Check, Mesh}
 use Rattle.tetfit_run.specs.declared.wanted.Wanted.{Wanted}
@@ -19,12 +19,14 @@ use Rattle.run_steps.specs.Steps.{AndThen, Gives, forced_answer}
 use Rattle.run_steps.specs.declared.input.Input.{Input}
 use Rattle.run_steps.specs.declared.outputs.Outputs.{Outputs}
 use Rattle.run_steps.specs.declared.status.Status.{Status}
-use Rattle.run_steps.specs.declared.status.Status.TheVariants.{Usage, Empty, NoFill, NoMemory}
+use Rattle.run_steps.specs.declared.status.Status.TheVariants.{Done, Usage, Empty, NoFill, NoMemory, WriteFault}
 use Rattle.tet_ports.specs.Files.{Files}
+use Rattle.refining.specs.declared.goal.Goal.{Goal}
 use Rattle.tetgen_run.proofs.Endings.{answers_same_by}
+use Rattle.tetgen_run.specs.Ends.{AnswersBy}
 use Rattle.tetfit_run.proofs.CheckedRuns.{check_same}
-use Rattle.tetfit_run.specs.Outputs.{FitWordsAnswer, IsFitUsage, IsFittedTo, MadeBy, OutputsOfFit, Says, fit_limits, wanted_from}
-use Rattle.tetfit_run.specs.Run.{IsFitAnswer, IsFitComplete, meshed_answer}
+use Rattle.tetfit_run.specs.Outputs.{FitWordsAnswer, IsConformedBy, IsFitUsage, IsFittedTo, IsMeshedTo, IsOffSomeGrid, MadeBy, OutputsOfFit, OutputsOfModel, Says, fit_limits, wanted_from}
+use Rattle.tetfit_run.specs.Run.{IsFitAnswer, IsFitComplete, MayConform, meshed_answer}
 
 -- ---- the words
 
@@ -116,12 +118,17 @@ record Fit (options : Options) (input : Input) (r : Result Outputs Status) : Typ
   fitted : IsFitted fit_limits options input m made
   is : status_by read_status r ≡ status_of made
 
-fit_of : (wanted : Wanted) (input : Input) (r : Result Outputs Status) → IsDecided r → IsFittedTo wanted input r → Fit wanted.options input r
-fit_of wanted input (Ok outputs) d h = record { m = h.0; made = Ok h.1; decided = tt; fitted = h.2; is = refl }
+-- an answer without points on the segments
+abbrev BareFit : Wanted → Input → Result Outputs Status → Type 0
+BareFit wanted input (Ok outputs) = IsMeshedTo wanted input outputs
+BareFit wanted input (Err s) = IsFittedTo wanted input (Err s)
+
+fit_of : (wanted : Wanted) (input : Input) (r : Result Outputs Status) → IsDecided r → BareFit wanted input r → Fit wanted.options input r
+fit_of wanted input (Ok outputs) d h = record { m = h.decimals; made = Ok h.made; decided = tt; fitted = h.fitted; is = refl }
 fit_of wanted input (Err Empty) d h = record { m = h.0; made = Ok h.1.made; decided = tt; fitted = h.1.fitted; is = refl }
 fit_of wanted input (Err s) d h = record { m = h.0; made = Err s; decided = d; fitted = h.1; is = refl }
 
-fitted_same : (wanted : Wanted) (input : Input) → IsSameBy read_status (IsFittedTo wanted input)
+fitted_same : (wanted : Wanted) (input : Input) → IsSameBy read_status (BareFit wanted input)
 fitted_same wanted input r s c d h k =
     let a = fit_of wanted input r c h in
     let b = fit_of wanted input s d k in
@@ -134,14 +141,81 @@ says_same text (Ok a) (Ok b) c d h k = refl
 says_same text (Err s) r c d h k = absurd (c h)
 says_same text (Ok a) (Err t) c d h k = absurd (d k)
 
-made_same : (request : Request) (told : Files) (words : List (List ℕ)) (seen : FolderSeen) → IsTold told seen → IsSameBy read_status (MadeBy request words seen)
+abbrev BareModel : List (List ℕ) → FolderSeen → Result Outputs Status → Type 0
+BareModel words seen =
+    AndThen (FitWordsAnswer words) (λ wanted. AndThen (ModelAnswer fit_limits seen wanted.name wanted.options) (λ input. BareFit (wanted_from input wanted) input))
+
+abbrev BareMade : Request → List (List ℕ) → FolderSeen → Result Outputs Status → Type 0
+BareMade Page words seen r = MadeBy Page words seen r
+BareMade Version words seen r = MadeBy Version words seen r
+BareMade Check words seen r = MadeBy Check words seen r
+BareMade Mesh words seen r = BareModel (others words) seen r
+
+made_same : (request : Request) (told : Files) (words : List (List ℕ)) (seen : FolderSeen) → IsTold told seen → IsSameBy read_status (BareMade request words seen)
 made_same Page told words seen h = says_same _
 made_same Version told words seen h = says_same _
 made_same Check told words seen h = check_same read_status refl told (others words) seen h
 made_same Mesh told words seen h =
-    and_then_same_by read_status (FitWordsAnswer (others words)) (λ wanted. AndThen (ModelAnswer fit_limits seen wanted.name wanted.options) (λ input. IsFittedTo (wanted_from input wanted) input)) (words_once (others words))
-    (λ wanted. and_then_same_by read_status (ModelAnswer fit_limits seen wanted.name wanted.options) (λ input. IsFittedTo (wanted_from input wanted) input) (model_once told seen wanted.name wanted.options h) (λ input. fitted_same (wanted_from input wanted) input))
+    and_then_same_by read_status (FitWordsAnswer (others words)) (λ wanted. AndThen (ModelAnswer fit_limits seen wanted.name wanted.options) (λ input. BareFit (wanted_from input wanted) input)) (words_once (others words))
+    (λ wanted. and_then_same_by read_status (ModelAnswer fit_limits seen wanted.name wanted.options) (λ input. BareFit (wanted_from input wanted) input) (model_once told seen wanted.name wanted.options h) (λ input. fitted_same (wanted_from input wanted) input))
+
+-- ---- points on the segments
+
+bounds_of : (goal : Option Goal) (options : Options) (input : Input) (n : ℕ) (final : Outputs) → IsConformedBy goal options input n final → (g : Goal) × (goal ≡ Some g) × IsOffSomeGrid options input
+bounds_of None options input n final h = absurd h
+bounds_of (Some g) options input n final h = (g, refl, h.off_grid)
+
+module _ (words : List (List ℕ)) (seen : FolderSeen) (asked : request_of words ≡ Mesh) where
+  fitted_bare : (wanted : Wanted) (input : Input) (outputs : Outputs) → FitWordsAnswer (others words) (Ok wanted) → ModelAnswer fit_limits seen wanted.name wanted.options (Ok input)
+      → IsFittedTo (wanted_from input wanted) input (Ok outputs) → BareModel (others words) seen (Ok outputs) ⊎ MayConform words seen
+  fitted_bare wanted input outputs w read (inl h) = inl (wanted, w, (input, read, h))
+  fitted_bare wanted input outputs w read (inr h) =
+      let by = subst (λ (q : Wanted). IsConformedBy q.goal (with_origin input q.options) input h.0 h.1) w.1 h.2 in
+      let g = bounds_of (fit_goal (others words)) (with_origin input (fit_options (others words))) input h.0 h.1 by in
+      inr (record {
+        asked = asked;
+        goal = g.0;
+        bounded = g.1;
+        input = input;
+        read = subst (λ (q : Wanted). ModelAnswer fit_limits seen q.name q.options (Ok input)) w.1 read;
+        off_grid = g.2;
+      })
+
+  model_bare : (r : Result Outputs Status) → OutputsOfModel (others words) seen r → BareModel (others words) seen r ⊎ MayConform words seen
+  model_bare (Ok outputs) h = fitted_bare h.0 h.2.0 outputs h.1 h.2.1 h.2.2
+  model_bare (Err s) h = inl h
+
+made_bare : (request : Request) (words : List (List ℕ)) (seen : FolderSeen) → request_of words ≡ request → (r : Result Outputs Status) → MadeBy request words seen r
+    → BareMade request words seen r ⊎ MayConform words seen
+made_bare Page words seen asked r h = inl h
+made_bare Version words seen asked r h = inl h
+made_bare Check words seen asked r h = inl h
+made_bare Mesh words seen asked r h = model_bare words seen asked r h
+
+left_by : {A B X : Type 0} → (A → B) → A ⊎ X → B ⊎ X
+left_by f (inl a) = inl (f a)
+left_by f (inr x) = inr x
+
+-- an answer of a run has a cause without points on the segments, or there may be such points
+answers_bare : (X : Type 0) (Made Bare : Result Outputs Status → Type 0) → ((r : Result Outputs Status) → Made r → Bare r ⊎ X) → (folder : FolderSeen) (out : SinkSeen) (s : Status)
+    → AnswersBy Made folder out s → AnswersBy Bare folder out s ⊎ X
+answers_bare X Made Bare split folder out Done h = left_by (λ p. (h.0, p)) (split (Ok h.0) h.1)
+answers_bare X Made Bare split folder out (WriteFault None) h = left_by (λ p. (h.0, p, h.2)) (split (Ok h.0) h.1)
+answers_bare X Made Bare split folder out (WriteFault (Some name)) h = left_by (λ p. (h.0, p, h.2)) (split (Ok h.0) h.1)
+answers_bare X Made Bare split folder out NoMemory h = inl tt
+answers_bare X Made Bare split folder out s h = split (Err s) h
 
 pub answer_complete : (words : List (List ℕ)) (folder : FolderSeen) (out : SinkSeen) (s : Status) → IsFitAnswer words folder out s → IsFitComplete words folder out s
-answer_complete words folder out s h told e f n other m k =
-    answers_same_by read_status (OutputsOfFit words folder) refl (made_same (request_of words) told words folder (record { files = e; no_fault = f.0 })) folder out f s other n m h k
+answer_complete words folder out s h told e f n other m k = both (bare s h) (bare other k)
+  where
+    Bare : Result Outputs Status → Type 0
+    Bare = BareMade (request_of words) words folder
+
+    bare : (t : Status) → IsFitAnswer words folder out t → AnswersBy Bare folder out t ⊎ MayConform words folder
+    bare = answers_bare (MayConform words folder) (OutputsOfFit words folder) Bare (made_bare (request_of words) words folder refl) folder out
+
+    both : AnswersBy Bare folder out s ⊎ MayConform words folder → AnswersBy Bare folder out other ⊎ MayConform words folder
+        → MayConform words folder ⊎ (forced_answer (meshed_answer s) ≡ forced_answer (meshed_answer other))
+    both (inr may) b = inl may
+    both (inl a) (inr may) = inl may
+    both (inl a) (inl b) = inr (answers_same_by read_status Bare refl (made_same (request_of words) told words folder (record { files = e; no_fault = f.0 })) folder out f s other n m a b)

@@ -1,5 +1,5 @@
 -- What a run makes of its words: its refusals, its mesh, and that it holds over all of a run.
-use Rattle.std.proofs.Common.{◌≡◌, inl, inr, ℕ, true, false, List, [], Option, Some, None, Result, Ok, Err, refl, sym, ◌∙◌, subst, ap}
+use Rattle.std.proofs.Common.{◌≡◌, ◌<◌, arith, inl, inr, ℕ, true, false, List, [], Option, Some, None, Result, Ok, Err, refl, sym, ◌∙◌, subst, ap}
 use Rattle.std.specs.Prelude.{Bool, IsTrue, All, IfOk, IfErr}
 use Rattle.command_words.specs.declared.fault.WordsFault.{WordsFault}
 use Rattle.command_words.specs.declared.fault.WordsFault.TheVariants.{Usage as Misunderstood, NoMemory as WordsWanting}
@@ -10,13 +10,13 @@ use Rattle.tetfit_run.specs.Hints.{IsHint, IsHintBy, moved_text}
 use Rattle.tetfit_run.specs.Models.{IsStatedBy, ModelAnswer}
 use Rattle.tetfit_run.specs.declared.model.Model.{Model}
 use Rattle.tetfit_run.specs.Opening.{is_empty}
-use Rattle.tetfit_run.specs.Trying.{IsFitted, IsNumbered, IsRefused, at_decimals}
+use Rattle.tetfit_run.specs.Trying.{IsFitted, IsNumbered, IsRefused, at_decimals, is_of_grid}
 use Rattle.tetfit_run.specs.declared.fitting.Refused.{Refused as Unfit}
 use Rattle.node_files.specs.declared.limits.Limits.{Limits}
 use Rattle.refining.specs.declared.goal.Goal.{Goal}
 use Rattle.tetfit_run.proofs.CheckedRuns.{check_refuses, check_wider}
-use Rattle.tetfit_run.proofs.RefinedRuns.{refined_mesh_by}
-use Rattle.tetfit_run.specs.Words.{fit_fault, fit_goal, fit_name, fit_options, others, request_of}
+use Rattle.tetfit_run.proofs.RefinedRuns.{conforming_mesh_by, refined_mesh_by}
+use Rattle.tetfit_run.specs.Words.{fit_fault, fit_goal, fit_name, fit_options, fit_wanted, others, request_of}
 use Rattle.tetfit_run.specs.declared.wanted.Wanted.{Wanted}
 use Rattle.tetfit_run.specs.declared.request.Request.{Request}
 use Rattle.tetfit_run.specs.declared.request.Request.TheVariants.{Page, Version, Check, Mesh}
@@ -37,9 +37,9 @@ use Rattle.tetgen_run.specs.Stops.{stop_of_words}
 use Rattle.tetgen_run.specs.declared.stop.Stop.{Stop}
 use Rattle.tetgen_run.specs.declared.stop.Stop.TheVariants.{Refused, Unwritten, Unsummed, NoMemory as Wanting}
 use Rattle.tetfit_run.specs.Checks.{OutputsOfCheck}
-use Rattle.tetfit_run.specs.Outputs.{FitWordsAnswer, IsFinalBy, IsFitUsage, IsFittedTo, MadeBy, OutputsOfFit, OutputsOfModel, OutputsOfWanted, fit_limits, outputs_at, wanted_from}
-use Rattle.tetfit_run.specs.Measured.{origin_in, tried, with_origin}
-use Rattle.tetfit_run.specs.Run.{IsAskedBy, IsFinalMesh, IsKnown, IsKnownBy, IsKnownOf, IsMeshOfModel, IsFitNumbering, IsNumberingOf, IsTriedOf, IsUnfitted, TellsBehind, TellsEmpty, TellsUnnamed, options_from}
+use Rattle.tetfit_run.specs.Outputs.{FitWordsAnswer, IsConformedAt, IsConformedBy, IsFinalBy, IsFitUsage, IsFittedTo, IsMeshedTo, IsOffSomeGrid, MadeBy, OutputsOfFit, OutputsOfModel, OutputsOfWanted, fit_limits, outputs_at, wanted_from}
+use Rattle.tetfit_run.specs.Measured.{most_tried, origin_in, tried, with_origin}
+use Rattle.tetfit_run.specs.Run.{IsAskedBy, IsConformedModel, IsFinalMesh, IsModelMesh, IsKnown, IsKnownBy, IsKnownOf, IsMeshOfModel, IsFitNumbering, IsNumberingOf, IsTriedOf, IsUnfitted, TellsBehind, TellsEmpty, TellsUnnamed, options_from}
 
 -- ---- answers
 
@@ -240,7 +240,26 @@ wanted_made words folder wanted outputs w h = (wanted, w, h)
 
 pub fitted_told : (wanted : Wanted) (input : Input) (m n : ℕ) (made final : Outputs) (more : List ℕ) → IsFitted fit_limits wanted.options input m (Ok made) → is_empty made ≡ false
     → IsFinalBy wanted.goal wanted.options input m made n final → more ≡ moved_text n input.nodes.decimals → IsFittedTo wanted input (Ok (outputs_at n more final))
-fitted_told wanted input m n made final more h some f k = (m, made, h, some, n, final, f, ap (λ t. outputs_at n t final) k)
+fitted_told wanted input m n made final more h some f k =
+    inl (record { decimals = m; made = made; fitted = h; some = some; n = n; final = final; final_by = f; is = ap (λ t. outputs_at n t final) k })
+
+-- with points on the segments
+pub conformed_told : (wanted : Wanted) (input : Input) (n : ℕ) (final : Outputs) (more : List ℕ) → IsConformedBy wanted.goal wanted.options input n final
+    → more ≡ moved_text n input.nodes.decimals → IsFittedTo wanted input (Ok (outputs_at n more final))
+conformed_told wanted input n final more h k = inr (n, final, h, ap (λ t. outputs_at n t final) k)
+
+-- the grid refuses an input at some number of decimals: at the first one that is tried, or where it is refused
+pub off_first_grid : (limits : Limits) (options : Options) (input : Input) (refused : Unfit) (most : ℕ) → limits ≡ fit_limits → IsRefused limits options input refused → most ≡ most_tried input
+    → refused.decimals < most → IsOffSomeGrid options input
+off_first_grid limits options input refused most l r e few =
+    let k = subst (λ q. IsRefused q options input refused) l r in
+    record { decimals = most_tried input; within = omega arith; refused = k.0.finer (most_tried input) (omega (arith, few, e)) (omega arith) }
+
+pub off_last_grid : (limits : Limits) (options : Options) (input : Input) (refused : Unfit) → limits ≡ fit_limits → IsRefused limits options input refused → is_of_grid refused.end.status ≡ true
+    → IsOffSomeGrid options input
+off_last_grid limits options input refused l r e =
+    let k = subst (λ q. IsRefused q options input refused) l r in
+    record { decimals = refused.decimals; within = k.0.within; refused = record { status = refused.end.status; of_grid = e; answer = k.0.answer } }
 
 -- ---- the mesh
 
@@ -253,36 +272,76 @@ final_mesh (Some goal) words folder input m n made final none read h =
     let at = at_decimals n (options_from (origin_in input) words) in
     (h.0, refined_mesh_by goal fit_limits at (fit_fault words ≡ None) (λ placed. (i : Input) × IsTriedOf at words folder i placed) (tried at input) final none (input, (read, refl, refl)) h.1)
 
-model_mesh : (words : List (List ℕ)) (folder : FolderSeen) (outputs : Outputs) → OutputsOfModel words folder (Ok outputs) → IsMeshOfModel words folder outputs
-model_mesh words folder outputs h =
-    let o = fit_options words in
-    let e = h.1.1 in
-    let input = h.2.0 in
-    let f = h.2.2 in
-    let read = subst (λ (q : Wanted). ModelAnswer fit_limits folder q.name q.options (Ok input)) e h.2.1 in
-    let fitted = subst (λ (q : Wanted). IsFitted fit_limits (with_origin input q.options) input f.0 (Ok f.1)) e f.2 in
-    let last = subst (λ (q : Wanted). IsFinalBy q.goal (with_origin input q.options) input f.0 f.1 f.4 f.5) e f.6 in
-    let more = moved_text f.4 input.nodes.decimals in
-    let at = at_decimals f.0 (with_origin input o) in record {
-      origin = origin_in input;
-      decimals = f.0;
-      made = f.1;
-      final_decimals = f.4;
-      final = f.5;
-      more = more;
-      some = f.3;
-      mesh = mesh_by fit_limits at (fit_fault words ≡ None) (λ placed. (i : Input) × IsTriedOf at words folder i placed
-          × IsFitted fit_limits (with_origin input o) i f.0 (Ok f.1) × (more ≡ moved_text f.4 i.nodes.decimals))
-          (tried at input) f.1 h.1.0 (input, (read, refl, refl), fitted, refl) fitted.answer;
-      refined = final_mesh (fit_goal words) words folder input f.0 f.4 f.1 f.5 h.1.0 read last;
-      outputs_are = f.7;
-    }
+module _ (words : List (List ℕ)) (folder : FolderSeen) (outputs : Outputs) (wanted : Wanted) (understood : FitWordsAnswer words (Ok wanted)) (input : Input) (read_so : ModelAnswer fit_limits folder wanted.name wanted.options (Ok input)) where
+  abbrev o : Options
+  o = fit_options words
+
+  e : wanted ≡ fit_wanted words
+  e = understood.1
+
+  read : ModelAnswer fit_limits folder (fit_name words) (fit_options words) (Ok input)
+  read = subst (λ (q : Wanted). ModelAnswer fit_limits folder q.name q.options (Ok input)) e read_so
+
+  model_mesh : IsMeshedTo (wanted_from input wanted) input outputs → IsMeshOfModel words folder outputs
+  model_mesh h =
+      let m = h.decimals in
+      let made = h.made in
+      let n = h.n in
+      let fitted = subst (λ (q : Wanted). IsFitted fit_limits (with_origin input q.options) input m (Ok made)) e h.fitted in
+      let last = subst (λ (q : Wanted). IsFinalBy q.goal (with_origin input q.options) input m made n h.final) e h.final_by in
+      let more = moved_text n input.nodes.decimals in
+      let at = at_decimals m (with_origin input o) in record {
+        origin = origin_in input;
+        decimals = m;
+        made = made;
+        final_decimals = n;
+        final = h.final;
+        more = more;
+        some = h.some;
+        mesh = mesh_by fit_limits at (fit_fault words ≡ None) (λ placed. (i : Input) × IsTriedOf at words folder i placed
+            × IsFitted fit_limits (with_origin input o) i m (Ok made) × (more ≡ moved_text n i.nodes.decimals))
+            (tried at input) made understood.0 (input, (read, refl, refl), fitted, refl) fitted.answer;
+        refined = final_mesh (fit_goal words) words folder input m n made h.final understood.0 read last;
+        outputs_are = h.is;
+      }
+
+  -- with points on its segments
+  conformed_at : (goal : Goal) (n : ℕ) (final : Outputs) → IsConformedAt goal (with_origin input o) input n final → outputs ≡ outputs_at n (moved_text n input.nodes.decimals) final
+      → IsConformedModel goal words folder outputs
+  conformed_at goal n final h is =
+      let at = at_decimals n (with_origin input o) in record {
+        origin = origin_in input;
+        input = input;
+        read = read;
+        origin_is = refl;
+        final_decimals = n;
+        final = final;
+        conformed = h;
+        mesh = conforming_mesh_by goal fit_limits at (fit_fault words ≡ None) (λ placed. placed ≡ tried at input) (tried at input) final understood.0 refl h.made;
+        outputs_are = is;
+      }
+
+  conformed_by : (goal : Option Goal) (n : ℕ) (final : Outputs) → IsConformedBy goal (with_origin input o) input n final → outputs ≡ outputs_at n (moved_text n input.nodes.decimals) final
+      → IsModelMesh goal words folder outputs
+  conformed_by None n final h is = absurd h
+  conformed_by (Some goal) n final h is = inr (conformed_at goal n final h is)
+
+  meshed_by : (goal : Option Goal) → IsMeshOfModel words folder outputs → IsModelMesh goal words folder outputs
+  meshed_by None h = h
+  meshed_by (Some goal) h = inl h
+
+  fitted_asked : IsFittedTo (wanted_from input wanted) input (Ok outputs) → IsModelMesh (fit_goal words) words folder outputs
+  fitted_asked (inl h) = meshed_by (fit_goal words) (model_mesh h)
+  fitted_asked (inr h) = conformed_by (fit_goal words) h.0 h.1 (subst (λ (q : Wanted). IsConformedBy q.goal (with_origin input q.options) input h.0 h.1) e h.2) h.3
+
+model_asked : (words : List (List ℕ)) (folder : FolderSeen) (outputs : Outputs) → OutputsOfModel words folder (Ok outputs) → IsModelMesh (fit_goal words) words folder outputs
+model_asked words folder outputs h = fitted_asked words folder outputs h.0 h.1 h.2.0 h.2.1 h.2.2
 
 asked_by : (request : Request) (words : List (List ℕ)) (folder : FolderSeen) (outputs : Outputs) → MadeBy request words folder (Ok outputs) → IsAskedBy request words folder outputs
 asked_by Page words folder outputs h = h
 asked_by Version words folder outputs h = h
 asked_by Check words folder outputs h = h
-asked_by Mesh words folder outputs h = model_mesh (others words) folder outputs h
+asked_by Mesh words folder outputs h = model_asked (others words) folder outputs h
 
 pub fit_asked : (words : List (List ℕ)) (folder : FolderSeen) (outputs : Outputs) → OutputsOfFit words folder (Ok outputs) → IsAskedBy (request_of words) words folder outputs
 fit_asked words folder = asked_by (request_of words) words folder

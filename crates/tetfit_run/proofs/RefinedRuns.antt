@@ -9,7 +9,10 @@ use Rattle.geo_laws.specs.Mesh.{IsMesh}
 use Rattle.geo_laws.specs.Segment.{pieces}
 use Rattle.path_laws.specs.Flood.{carving_of}
 use Rattle.refining.specs.Refined.{IsMeshWith, options_with}
-use Rattle.refining.specs.Outputs.{RefinedMeshed}
+use Rattle.plc_files.specs.Text.{limits_of}
+use Rattle.refining.specs.Goals.{shape_bounds}
+use Rattle.refining.specs.Outputs.{ConformingMeshed, RefinedAnswer, RefinedMeshed}
+use Rattle.run_steps.specs.Meshing.{BoundAnswer}
 use Rattle.refining.specs.declared.goal.Goal.{Goal}
 use Rattle.run_steps.proofs.Determined.{outputs_same}
 use Rattle.run_steps.specs.declared.mesh.Bound.{Bound}
@@ -19,7 +22,7 @@ use Rattle.tetgen_run.specs.Run.{IsDetermined}
 use Rattle.run_steps.specs.declared.input.Input.{Input}
 use Rattle.run_steps.specs.declared.outputs.Outputs.{Outputs}
 use Rattle.node_files.specs.declared.limits.Limits.{Limits}
-use Rattle.tetfit_run.specs.Refined.{IsRefinedMeshBy}
+use Rattle.tetfit_run.specs.Refined.{HasBareMesh, IsRefinedMeshBy}
 
 -- no point of the table is taken away
 begins_with : (options : Options) (bound : Bound) (more : List Point) (halvings : ℕ) (made : ComplexMesh) → IsMeshWith options bound more halvings made → length bound.table.points ≤ length made.points
@@ -29,12 +32,11 @@ begins_with options bound more halvings made h =
     let low = grows.0 in
     omega (arith, low, length-append bound.table.points more)
 
--- the outputs of a refined input are those of one mesh
-pub refined_mesh_by : (goal : Goal) (limits : Limits) (options : Options) (Understood : Type 0) (Read : Input → Type 0) (input : Input) (outputs : Outputs) → Understood → Read input
-    → RefinedMeshed goal limits options input (Ok outputs) → IsRefinedMeshBy goal limits options Understood Read outputs
-refined_mesh_by goal limits options Understood Read input outputs understood read h =
-    let bound = h.0 in
-    let refined = h.2.2 in
+-- the outputs of a mesh with points behind those of a complex are those of one mesh
+answered_by : (goal : Goal) (limits : Limits) (options : Options) (Understood : Type 0) (Read : Input → Type 0) (Bare : Bound → Type 0) (input : Input) (bound : Bound) (outputs : Outputs) → Understood → Read input
+    → BoundAnswer limits options input (Ok bound) → Bare bound → RefinedAnswer (shape_bounds bound goal (limits_of input.complex)) options bound (Ok outputs)
+    → IsRefinedMeshBy goal limits options Understood Read Bare outputs
+answered_by goal limits options Understood Read Bare input bound outputs understood read on_grid bare refined =
     let mesh = refined.2 in
     let made = refined.3.0 in
     let with_them = refined.3.1 in
@@ -43,9 +45,8 @@ refined_mesh_by goal limits options Understood Read input outputs understood rea
       input = input;
       read = read;
       bound = bound;
-      on_grid = h.1;
-      plain = h.2.0;
-      plain_made = h.2.1;
+      on_grid = on_grid;
+      bare = bare;
       more = refined.0;
       halvings = refined.1;
       mesh = mesh;
@@ -57,5 +58,17 @@ refined_mesh_by goal limits options Understood Read input outputs understood rea
       only = λ other on. outputs_same options mesh other refined.5.0 on refined.5.1;
       counts = refined.5.2;
       determined = subst (IsDetermined options) (sym is)
-          (complex_determined_on (options_with refined.1 options) (bound.table.points ++ refined.0) options bound made h.1.0.folded (begins_with options bound refined.0 refined.1 made with_them) with_them.mesh);
+          (complex_determined_on (options_with refined.1 options) (bound.table.points ++ refined.0) options bound made on_grid.0.folded (begins_with options bound refined.0 refined.1 made with_them) with_them.mesh);
     }
+
+-- the outputs of a refined input are those of one mesh
+pub refined_mesh_by : (goal : Goal) (limits : Limits) (options : Options) (Understood : Type 0) (Read : Input → Type 0) (input : Input) (outputs : Outputs) → Understood → Read input
+    → RefinedMeshed goal limits options input (Ok outputs) → IsRefinedMeshBy goal limits options Understood Read (HasBareMesh options) outputs
+refined_mesh_by goal limits options Understood Read input outputs understood read h =
+    answered_by goal limits options Understood Read (HasBareMesh options) input h.0 outputs understood read h.1 (h.2.0, h.2.1) h.2.2
+
+-- and those of one that has no mesh without points
+pub conforming_mesh_by : (goal : Goal) (limits : Limits) (options : Options) (Understood : Type 0) (Read : Input → Type 0) (input : Input) (outputs : Outputs) → Understood → Read input
+    → ConformingMeshed goal limits options input outputs → IsRefinedMeshBy goal limits options Understood Read (λ bound. Unit {0}) outputs
+conforming_mesh_by goal limits options Understood Read input outputs understood read h =
+    answered_by goal limits options Understood Read (λ bound. Unit {0}) input h.0 outputs understood read h.1 tt h.2

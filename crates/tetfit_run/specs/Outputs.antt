@@ -1,13 +1,13 @@
 -- The requests that the words of `tetfit` make, and their outputs.
-use Rattle.std.specs.Prelude.{◌≡◌, ◌≤◌, ℕ, true, false, List, Option, Some, None, Result, Ok, Err}
+use Rattle.std.specs.Prelude.{◌≡◌, ◌≤◌, ◌⊎◌, ℕ, true, false, List, Option, Some, None, Result, Ok, Err}
 use Rattle.std.specs.Option.{option_map}
 use Rattle.command_words.specs.declared.options.Options.{Options}
-use Rattle.tetfit_run.specs.Measured.{tried, with_origin}
+use Rattle.tetfit_run.specs.Measured.{most_tried, tried, with_origin}
 use Rattle.tetfit_run.specs.Models.{ModelAnswer}
 use Rattle.tetfit_run.specs.Hints.{moved_text}
 use Rattle.tetfit_run.specs.Opening.{is_empty}
-use Rattle.tetfit_run.specs.Trying.{IsFitted, at_decimals}
-use Rattle.refining.specs.Outputs.{RefinedMeshed}
+use Rattle.tetfit_run.specs.Trying.{IsFitted, IsRefusedByGrid, at_decimals}
+use Rattle.refining.specs.Outputs.{ConformingMeshed, RefinedMeshed}
 use Rattle.refining.specs.declared.goal.Goal.{Goal}
 use Rattle.tetfit_run.specs.Checks.{OutputsOfCheck, reported}
 use Rattle.tetfit_run.specs.Words.{fit_fault, fit_wanted, others, request_of}
@@ -67,13 +67,50 @@ pub record IsEmptyAt (options : Options) (input : Input) (decimals : ℕ) : Type
   pub fitted : IsFitted fit_limits options input decimals (Ok made)
   pub empty : is_empty made ≡ true
 
--- The outputs of an input, or its refusal, at as many decimals as the grid does not refuse; a mesh without a tetrahedron
--- is refused. Behind the summary a line says by how much coordinates moved at most, where they were rounded
-abbrev pub IsFittedTo : Wanted → Input → Result Outputs Status → Type 0
-IsFittedTo wanted input (Ok outputs) =
-    (decimals : ℕ) × (made : Outputs) × IsFitted fit_limits wanted.options input decimals (Ok made) × (is_empty made ≡ false)
-    × (n : ℕ) × (final : Outputs) × IsFinalBy wanted.goal wanted.options input decimals made n final
+-- the outputs of an input that is fitted, where its mesh has a tetrahedron
+pub record IsMeshedTo (wanted : Wanted) (input : Input) (outputs : Outputs) : Type 0 where
+  pub decimals : ℕ
+  pub made : Outputs
+  pub fitted : IsFitted fit_limits wanted.options input decimals (Ok made)
+  pub some : is_empty made ≡ false
+  pub n : ℕ
+  pub final : Outputs
+  pub final_by : IsFinalBy wanted.goal wanted.options input decimals made n final
+  pub is : outputs ≡ outputs_at n (moved_text n input.nodes.decimals) final
+
+-- at some number of decimals that is tried the grid refuses the input
+pub record IsOffSomeGrid (options : Options) (input : Input) : Type 0 where
+  pub decimals : ℕ
+  pub within : decimals ≤ most_tried input
+  pub refused : IsRefusedByGrid fit_limits options input decimals
+
+-- The input is refused, and at some number of decimals by the grid. The outputs are those of a mesh with points behind those of the
+-- model, at n decimals, which has a tetrahedron
+pub record IsConformedAt (goal : Goal) (options : Options) (input : Input) (n : ℕ) (final : Outputs) : Type 0 where
+  pub decimals : ℕ
+  pub status : Status
+  pub fitted : IsFitted fit_limits options input decimals (Err status)
+  pub off_grid : IsOffSomeGrid options input
+  pub within : n ≤ most_tried input
+  pub made : ConformingMeshed goal fit_limits (at_decimals n options) (tried (at_decimals n options) input) final
+  pub some : is_empty final ≡ false
+
+-- such outputs, where tetrahedra are bounded
+abbrev pub IsConformedBy : Option Goal → Options → Input → ℕ → Outputs → Type 0
+IsConformedBy None options input n final = ⊥
+IsConformedBy (Some goal) options input n final = IsConformedAt goal options input n final
+
+abbrev pub IsConformedTo : Wanted → Input → Outputs → Type 0
+IsConformedTo wanted input outputs =
+    (n : ℕ) × (final : Outputs) × IsConformedBy wanted.goal wanted.options input n final
     × (outputs ≡ outputs_at n (moved_text n input.nodes.decimals) final)
+
+-- The outputs of an input, or its refusal, at as many decimals as the grid does not refuse; a mesh without a tetrahedron
+-- is refused. Where tetrahedra are bounded and the grid refuses the input at some number of decimals, the outputs of a refused input
+-- may be those of a mesh with points behind its own. Behind the summary a line says by how much coordinates moved at most, where they
+-- were rounded
+abbrev pub IsFittedTo : Wanted → Input → Result Outputs Status → Type 0
+IsFittedTo wanted input (Ok outputs) = IsMeshedTo wanted input outputs ⊎ IsConformedTo wanted input outputs
 IsFittedTo wanted input (Err Empty) = (decimals : ℕ) × IsEmptyAt wanted.options input decimals
 IsFittedTo wanted input (Err status) = (decimals : ℕ) × IsFitted fit_limits wanted.options input decimals (Err status)
 

@@ -1,5 +1,5 @@
 -- The status of a run of `tetfit`, the files that it leaves, and its messages.
-use Rattle.std.specs.Prelude.{◌≡◌, ◌≢◌, ◌≤◌, ℕ, IsTrue, false, List, Option, Some, None, Ok, Err}
+use Rattle.std.specs.Prelude.{◌≡◌, ◌≢◌, ◌≤◌, ◌⊎◌, ℕ, IsTrue, false, List, Option, Some, None, Ok, Err}
 use Rattle.command_words.specs.declared.options.Options.{Options}
 use Rattle.tetfit_run.specs.Hints.{IsHint, IsHintBy, flat_text, moved_text, off_grid_text}
 use Rattle.tetfit_run.specs.Measured.{BoundTried, origin_in, tried, with_origin}
@@ -8,7 +8,7 @@ use Rattle.tetfit_run.specs.Models.{IsStatedBy, ModelAnswer}
 use Rattle.tetfit_run.specs.Trying.{IsFitted, IsNumbered, at_decimals}
 use Rattle.tetfit_run.specs.Stages.{AreStagesPut, since, until}
 use Rattle.refining.specs.declared.goal.Goal.{Goal}
-use Rattle.tetfit_run.specs.Refined.{IsRefinedMeshBy}
+use Rattle.tetfit_run.specs.Refined.{HasBareMesh, IsRefinedMeshBy}
 use Rattle.tetfit_run.specs.Words.{fit_fault, fit_goal, fit_name, fit_options, others, request_of}
 use Rattle.tetfit_run.specs.declared.model.Model.{Model}
 use Rattle.tetfit_run.specs.declared.model.Stated.{Stated}
@@ -33,7 +33,7 @@ use Rattle.tetgen_run.specs.declared.stop.Stop.TheVariants.{Refused, NoMemory as
 use Rattle.tetfit_run.specs.Checks.{IsSoundMesh}
 use Rattle.tetfit_run.specs.Messages.{fit_message}
 use Rattle.tetfit_run.specs.Opening.{TellsOpening, is_empty}
-use Rattle.tetfit_run.specs.Outputs.{IsEmptyAt, OutputsOfFit, fit_limits, outputs_at, said}
+use Rattle.tetfit_run.specs.Outputs.{IsConformedAt, IsEmptyAt, IsOffSomeGrid, OutputsOfFit, fit_limits, outputs_at, said}
 
 -- The cause of each answer. Done where there are outputs, and any other answer is the refusal of a step: of a mesh it is that of the run at
 -- some number of decimals, and at each greater number up to the first one that is tried the grid refuses; of a check it is the first one
@@ -46,13 +46,23 @@ abbrev pub meshed_answer : Status → Status
 meshed_answer Empty = Done
 meshed_answer status = status
 
+-- The words ask for a mesh with bounded tetrahedra, and at some number of decimals the grid refuses the model that they name
+pub record MayConform (words : List (List ℕ)) (folder : FolderSeen) : Type 0 where
+  pub asked : request_of words ≡ Mesh
+  pub goal : Goal
+  pub bounded : fit_goal (others words) ≡ Some goal
+  pub input : Input
+  pub read : ModelAnswer fit_limits folder (fit_name (others words)) (fit_options (others words)) (Ok input)
+  pub off_grid : IsOffSomeGrid (with_origin input (fit_options (others words))) input
+
 -- Where contracts see the files, nothing failed and memory did not run out, each answer that has a cause is the answer,
--- except where two facets cross one tetrahedron, as in a run of `tetgen`. Whether a mesh is empty is told by its cause
+-- except where two facets cross one tetrahedron, as in a run of `tetgen`, and where added points may help a model that the grid
+-- refuses. Whether a mesh is empty is told by its cause
 abbrev pub IsFitComplete : List (List ℕ) → FolderSeen → SinkSeen → Status → Type 0
 IsFitComplete words folder out status =
     (told : Files) → folder.files_before ≡ Some told → HasNoFault folder out → status ≢ NoMemory
     → (other : Status) → other ≢ NoMemory → IsFitAnswer words folder out other
-    → forced_answer (meshed_answer status) ≡ forced_answer (meshed_answer other)
+    → MayConform words folder ⊎ (forced_answer (meshed_answer status) ≡ forced_answer (meshed_answer other))
 
 -- ---- what is left
 
@@ -72,7 +82,7 @@ abbrev pub IsFinalMesh : Option Goal → Options → List (List ℕ) → FolderS
 IsFinalMesh None options words folder m made n final = (n ≡ m) × (final ≡ made)
 IsFinalMesh (Some goal) options words folder m made n final = (n ≤ m)
     × IsRefinedMeshBy goal fit_limits (at_decimals n options) (fit_fault words ≡ None)
-    (λ at. (input : Input) × IsTriedOf (at_decimals n options) words folder input at) final
+    (λ at. (input : Input) × IsTriedOf (at_decimals n options) words folder input at) (HasBareMesh (at_decimals n options)) final
 
 -- The outputs are those of one mesh of the model that the words name, at a number of decimals that their summary has:
 -- at each greater number of decimals, up to the first one that is tried, the grid refuses the model. Where a volume or a
@@ -94,12 +104,32 @@ pub record IsMeshOfModel (words : List (List ℕ)) (folder : FolderSeen) (output
   pub refined : IsFinalMesh (fit_goal words) (options_from origin words) words folder decimals made final_decimals final
   pub outputs_are : outputs ≡ outputs_at final_decimals more final
 
+-- The outputs are those of one mesh of the model that the words name, with points behind those of the model, where tetrahedra are
+-- bounded: the model is refused without them, at some number of decimals for the grid. The mesh has a tetrahedron, and lines are as
+-- behind other meshes
+pub record IsConformedModel (goal : Goal) (words : List (List ℕ)) (folder : FolderSeen) (outputs : Outputs) : Type 0 where
+  pub origin : Option WholePoint
+  pub input : Input
+  pub read : ModelAnswer fit_limits folder (fit_name words) (fit_options words) (Ok input)
+  pub origin_is : origin ≡ origin_in input
+  pub final_decimals : ℕ
+  pub final : Outputs
+  pub conformed : IsConformedAt goal (options_from origin words) input final_decimals final
+  pub mesh : IsRefinedMeshBy goal fit_limits (at_decimals final_decimals (options_from origin words)) (fit_fault words ≡ None)
+      (λ at. at ≡ tried (at_decimals final_decimals (options_from origin words)) input) (λ bound. Unit {0}) final
+  pub outputs_are : outputs ≡ outputs_at final_decimals (moved_text final_decimals input.nodes.decimals) final
+
+-- what the outputs of a model are, by the bounds on its tetrahedra
+abbrev pub IsModelMesh : Option Goal → List (List ℕ) → FolderSeen → Outputs → Type 0
+IsModelMesh None words folder outputs = IsMeshOfModel words folder outputs
+IsModelMesh (Some goal) words folder outputs = IsMeshOfModel words folder outputs ⊎ IsConformedModel goal words folder outputs
+
 -- what the outputs of a request are
 abbrev pub IsAskedBy : Request → List (List ℕ) → FolderSeen → Outputs → Type 0
 IsAskedBy Page words folder outputs = outputs ≡ said PAGE.now
 IsAskedBy Version words folder outputs = outputs ≡ said VERSION.now
 IsAskedBy Check words folder outputs = IsSoundMesh (others words) folder outputs
-IsAskedBy Mesh words folder outputs = IsMeshOfModel (others words) folder outputs
+IsAskedBy Mesh words folder outputs = IsModelMesh (fit_goal (others words)) (others words) folder outputs
 
 -- what each answer leaves
 abbrev pub IsFitLeft : List (List ℕ) → FolderSeen → SinkSeen → Status → Type 0

@@ -30,7 +30,7 @@ pub struct Refused {
 
 /// Whether the refusal is one of the grid: a point is off the grid, or a subsegment has no midpoint
 /// on it.
-fn is_of_grid(status: &Status) -> bool
+pub(crate) fn is_of_grid(status: &Status) -> bool
     ensures { result ≡ is_of_grid status.now }
 {
     match status {

@@ -54,23 +54,26 @@ pub(crate) fn next_tried(
     next
 }
 
+/// The greatest coordinate of a model whose mesh is refined, in units of its decimals: eight
+/// halvings of the grid are left to added points.
+const FINE: u64 = 1 << 21;
+
 /// The number of decimals at which the mesh is refined, of those up to `decimals`: the greatest at
-/// which no coordinate is over `wide` units, so that the grid has halvings left for added points;
-/// or `decimals`, where there is none.
+/// which no coordinate is over 2^21 units, so that the grid has halvings left for added points; or
+/// `decimals`, where there is none.
 pub(crate) fn refined_decimals(
     origin: Option<WholePoint>,
     points: &[DecimalPoint],
     decimals: u32,
-    wide: u64,
 ) -> u32
     requires { IfSome origin (IsNear decimals) }
     ensures { result ≤ decimals }
 {
     let mut next = decimals;
-    while next > 0 && is_off_grid(wide, origin, points, next) {
+    while next > 0 && is_off_grid(FINE, origin, points, next) {
         next -= 1;
     }
-    if is_off_grid(wide, origin, points, next) {
+    if is_off_grid(FINE, origin, points, next) {
         decimals
     } else {
         next

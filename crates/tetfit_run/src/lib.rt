@@ -5,6 +5,7 @@
 
 mod check_words;
 mod checks;
+mod conforming;
 mod coordinates;
 mod copies;
 mod facets;

@@ -8,7 +8,7 @@ ghost use Rattle.refining.specs.Outputs.{RefinedMeshed};
 ghost use Rattle.grid_coords.specs.Origins.{IsNear};
 ghost use Rattle.tetfit_run.specs.Measured.{most_tried, origin_in, tried};
 ghost use Rattle.tetfit_run.specs.Trial.{AreInTriedRange};
-ghost use Rattle.tetfit_run.specs.Trying.{AreTriable, IsFitted, at_decimals};
+ghost use Rattle.tetfit_run.specs.Trying.{AreTriable, IsFitted, IsRefused, at_decimals};
 ghost use Rattle.tetfit_run.specs.Words.{IsPlainRequest, IsRefinable, fit_fault, others, request_of};
 ghost use Rattle.run_steps.specs.Reading.{IsSound};
 ghost use Rattle.tet_ports.specs.Seen.{IsOnlyRead, folder_seen};
@@ -21,8 +21,9 @@ ghost use Rattle.tetfit_run.specs.Run.{IsKnown, IsKnownOf, IsUnfitted, TellsEmpt
 ghost use Rattle.tetfit_run.specs.Stages.{SeesRounds};
 
 use crate::checks::{outputs_of_check, reported};
+use crate::conforming::conformed_outputs;
 use crate::copies::with_origin;
-use crate::fitting::{Fitted, fit_input};
+use crate::fitting::{Fitted, Refused, fit_input};
 use crate::grids::refined_decimals;
 use crate::hints::{hint_of, moved_text};
 use crate::limits::fit_limits;
@@ -39,10 +40,6 @@ use run_steps::{Input, Outputs, Report, Status};
 use std::alloc::Global;
 use tet_ports::{Bytes, Folder, Name, NoMemory, Words};
 use tetgen_run::Stop;
-
-/// The greatest coordinate of a model whose mesh is refined, in units of its decimals: eight
-/// halvings of the grid are left to added points.
-const FINE: u64 = 1 << 21;
 
 /// Outputs without files, whose text is written in place of the summary.
 fn said(alloc: Global, text: &[u8]) -> Result<Outputs, NoMemory>
@@ -117,7 +114,7 @@ fn refined_within<W: Watch>(
     ensures shown { SeesRounds W.shown watch.old watch.new }
 {
     let points = input.nodes.decimals.as_slice();
-    let fine = refined_decimals(options.origin, points, decimals, FINE);
+    let fine = refined_decimals(options.origin, points, decimals);
     match refined_at(alloc, options, input, fine, goal, watch) {
         Ok(outputs) => Ok(Fitted {
             decimals: fine,
@@ -231,6 +228,36 @@ fn filled_outputs<W: Watch>(
     Ok(told_outputs(alloc, wanted, &model.input, fitted, watch)?)
 }
 
+/// The outputs of a refused model with points on its segments, where tetrahedra are bounded and it
+/// has a mesh with them, or its refusal with the lines that follow its message.
+fn refused_outputs<W: Watch>(
+    alloc: Global,
+    wanted: &Wanted,
+    model: &Model,
+    refused: Refused,
+    hint: &mut Bytes,
+    watch: &mut W,
+) -> Result<Outputs, Stop>
+    requires input { IsSound model.now.input }
+    requires origin { wanted.now.options.origin ≡ origin_in model.now.input }
+    requires ranges { AreTriable wanted.now.options model.now.input }
+    requires refinable { IsRefinable wanted.now }
+    requires refused { IsRefused fit_limits wanted.now.options model.now.input refused }
+    ensures made { IfOk result
+        (λ outputs. IsFittedTo wanted.now model.now.input (Ok outputs)) }
+    ensures stopped { IfErr result (IsUnfitted wanted.now.options model.now hint.new) }
+    ensures shown { SeesRounds W.shown watch.old watch.new }
+{
+    let input = &model.input;
+    if let Some(last) = conformed_outputs(alloc, wanted, input, &refused, watch)? {
+        let more = moved_text(alloc, last.decimals, input.nodes.decimals.as_slice())?;
+        return Ok(outputs_at(last, more));
+    }
+    *hint = hint_of(alloc, fit_limits(), &wanted.options, model, &refused)?;
+    let Unfitted { status, numbering } = refused.end;
+    Err(Stop::Refused { status, numbering })
+}
+
 /// The outputs of a model with the most decimals at which the grid does not refuse it, or the
 /// refusal with the lines that follow its message.
 fn fitted_outputs<W: Watch>(
@@ -252,11 +279,7 @@ fn fitted_outputs<W: Watch>(
     let options = &wanted.options;
     match fit_input(alloc, fit_limits(), options, &model.input) {
         Ok(fitted) => filled_outputs(alloc, wanted, model, fitted, hint, watch),
-        Err(refused) => {
-            *hint = hint_of(alloc, fit_limits(), options, model, &refused)?;
-            let Unfitted { status, numbering } = refused.end;
-            Err(Stop::Refused { status, numbering })
-        }
+        Err(refused) => refused_outputs(alloc, wanted, model, refused, hint, watch),
     }
 }
 

@@ -26,6 +26,12 @@ const TWO_BOXES: &[u8] = b"\
 4 5 6 10 9\n4 6 7 11 10\n4 7 8 12 11\n4 8 5 9 12\n\
 0\n2\n1 4 4 4 1 1000\n2 4 4 10 2 42\n";
 
+/// A triangle with a side of 10^9, which is not Delaunay for a point near its middle, and which no
+/// halving of the grid is left to.
+const LONG_SIDE: &[u8] = b"\
+6 3 0 0\n1 0 0 0\n2 1000000000 0 0\n3 500000000 200000000 0\n4 500000000 -1000 0\n\
+5 500000000 0 200000000\n6 500000000 0 -200000000\n1 0\n1 0\n3 1 2 3\n0\n0\n";
+
 const POINTS: &[u8] = b"4 3 0 0\n1 0 0 0\n2 8 0 0\n3 8 8 0\n4 0 8 8\n";
 
 const NO_VOLUME: &[u8] = b"tetfit: -a0: 0: a volume above 0 is wanted, and a model with facets\n";
@@ -288,6 +294,41 @@ static STAGED: [Run<'static>; 3] = [
         files: &[],
     },
 ];
+
+const NEEDS_FINER_GRID: &[u8] = b"\
+tetfit: segment 1 2 needs a finer grid\n\
+tetfit: it lies on segment 1 2 of facet 1\n\
+tetfit: move apart what is near the segment, or turn sharp corners wider\n";
+
+static CONFORMING: [Run<'static>; 3] = [
+    Run {
+        name: "a missing segment that may not be halved",
+        held: &[(b"t.poly", &[LONG_SIDE])],
+        words: &[b"-c", b"t.poly"],
+        end: Refused(7, NEEDS_FINER_GRID),
+        files: &[],
+    },
+    Run {
+        name: "a point on the segment, where tetrahedra are bounded",
+        held: &[(b"t.poly", &[LONG_SIDE])],
+        words: &[b"-cS1NEF", b"-q", b"t.poly"],
+        end: Told(b"points 6 added 1 tetrahedra 8 faces 20 edges 18 decimals 0 slim 4 flat 4\n"),
+        files: &[],
+    },
+    Run {
+        name: "no point on it, where none may be added",
+        held: &[(b"t.poly", &[LONG_SIDE])],
+        words: &[b"-cS0", b"-q", b"t.poly"],
+        end: Refused(7, NEEDS_FINER_GRID),
+        files: &[],
+    },
+];
+
+#[test]
+fn points_on_segments(rt: HostRuntime) -> Result<(), Fail> {
+    assert_eq!(rt; other_run(rt.alloc(), Tetfit, &CONFORMING)?, None);
+    Ok(())
+}
 
 #[test]
 fn rounds_that_are_said(rt: HostRuntime) -> Result<(), Fail> {

@@ -3,11 +3,11 @@ use Rattle.refining.proofs.outputs.refined_outputs.Goals as goal
 
 pub counted_outputs-requires-clause-on : goal.counted_outputs-requires-clause-on
 counted_outputs-requires-clause-on g c =
-    refined_on c.args.options.now c.args.bound c.args.bounds.now c.in-Ok.refined c.in-Ok.ensures.refined
+    refined_on c.args.options.now c.args.bound c.in-Ok.refined c.in-Ok.ensures.refined.behind
 
 pub counted_outputs-requires-clause-near : goal.counted_outputs-requires-clause-near
 counted_outputs-requires-clause-near g c =
-    refined_near c.args.options.now c.args.bound c.args.bounds.now c.in-Ok.refined c.requires.bound c.in-Ok.ensures.refined
+    refined_near c.args.options.now c.args.bound c.in-Ok.refined c.requires.bound c.in-Ok.ensures.refined.behind
 
 pub returns-in-Ok-clause-made : goal.returns-in-Ok-clause-made
 returns-in-Ok-clause-made g c =

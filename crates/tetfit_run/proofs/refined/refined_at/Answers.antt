@@ -1,4 +1,4 @@
-use Rattle.std.proofs.Common.{Ok, ap, ◌∙◌, subst}
+use Rattle.std.proofs.Common.{Ok, Err, subst}
 use Rattle.command_words.specs.declared.options.Options.{Options}
 use Rattle.plc_files.specs.Text.{limits_of}
 use Rattle.refining.specs.Goals.{shape_bounds}
@@ -6,9 +6,8 @@ use Rattle.refining.specs.Outputs.{RefinedMade, RefinedMeshed}
 use Rattle.refining.specs.declared.goal.ShapeBounds.{ShapeBounds}
 use Rattle.run_steps.proofs.Steps.{and_then_ok}
 use Rattle.run_steps.specs.Meshing.{BoundAnswer}
-use Rattle.tetfit_run.specs.Measured.{BoundTried, tried}
+use Rattle.tetfit_run.specs.Measured.{tried}
 use Rattle.tetfit_run.specs.Outputs.{fit_limits}
-use Rattle.tetfit_run.specs.Trial.{TrialValue}
 use Rattle.tetfit_run.proofs.refined.refined_at.Goals as goal
 
 pub returns-clause-made : goal.returns-clause-made
@@ -16,12 +15,9 @@ returns-clause-made g c =
     let input = c.args.input.now in
     let aim = c.args.goal.now in
     let o = c.in_ok-options.options in
-    let bound = c.in_ok-bound.bound in
     let made = c.refined_towards.result in
-    let limits_are = c.as_slice.ensures ∙ c.in_ok-of_regions.ensures in
-    let shapes_are = c.in_ok-shapes.ensures.value in
-    let refined = subst (λ (s : ShapeBounds). RefinedMade s o bound made) (shapes_are ∙ ap (shape_bounds bound aim) limits_are) c.refined_towards.ensures.made in
-    let tried_so = subst (λ (t : TrialValue). BoundTried t.limits t.options t.input (Ok bound)) c.new-rounded.ensures c.in_ok-bound.ensures.answer in
-    let answer = subst (λ limits. BoundTried limits o input (Ok bound)) c.fit_limits.ensures.values tried_so in
+    let bounded = c.in_ok-bound.field-0 in
+    let bound = bounded.bound in
+    let refined = subst (λ (s : ShapeBounds). RefinedMade s o bound made) c.in_ok-bound.ensures.answer.1 c.refined_towards.ensures.made in
     subst (λ (q : Options). RefinedMeshed aim fit_limits q (tried q input) made) c.in_ok-options.ensures
-    (and_then_ok (BoundAnswer fit_limits o (tried o input)) (λ b. RefinedMade (shape_bounds b aim (limits_of input.complex)) o b) bound made answer refined)
+    (and_then_ok (BoundAnswer fit_limits o (tried o input)) (λ b. RefinedMade (shape_bounds b aim (limits_of input.complex)) o b) bound made c.in_ok-bound.ensures.answer.0 refined)
