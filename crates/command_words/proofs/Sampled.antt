@@ -3,7 +3,8 @@ use Rattle.std.proofs.Common.{◌≡◌, ℕ, ◌+◌, Bool, true, false, not, �
 use Rattle.std.specs.Prelude.{find, unwrap_or, IsSome}
 use Rattle.std.specs.List.{list_any}
 use Rattle.std.specs.Option.{option_or}
-use Rattle.command_words.specs.Grammar.{bad_word_from, is_name, is_named, is_sampled, sample_words, name_of, are_at_odds, words_fault_within}
+use Rattle.command_words.specs.Grammar.{bad_word_from, are_at_odds, words_fault_within}
+use Rattle.command_words.specs.Words.{is_name, is_named, is_sampled, sample_words, name_of}
 
 -- the first that passes is not there, where none passes
 first_none : {X : Type 0} (b : Bool) (x : X) (rest : Bool) (found : Option X) → (b || rest) ≡ false → (rest ≡ false → found ≡ None) → (if b then Some x else found) ≡ None

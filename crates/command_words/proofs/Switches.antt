@@ -6,7 +6,9 @@ use Rattle.std.specs.Char.{is_ascii_digit}
 use Rattle.std.proofs.lemmas.List.Sums.{prefix_len-le-length}
 use Rattle.std.proofs.lemmas.Bool.{true≢false}
 use Rattle.std.proofs.lemmas.Bool.Decides.{Decides-eqb, nat_tests}
-use Rattle.command_words.specs.Grammar.{is_letter, digit_count, budget_at_front, starts_with_digit, AreSwitches, nothing, a_letter, a_number, switches_fault}
+use Rattle.command_words.specs.Grammar.{starts_with_digit, AreSwitches, nothing, a_letter, a_number, switches_fault}
+use Rattle.command_words.specs.Meaning.{is_letter}
+use Rattle.command_words.specs.Words.{digit_count, budget_at_front}
 
 -- ---- how many digits stand at the front
 

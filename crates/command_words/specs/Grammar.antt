@@ -1,53 +1,15 @@
 -- The grammar of the words of the command line, and where words are against it. Words and places are counted from 1.
-use Rattle.std.specs.Prelude.{◌≡◌, ℕ, ◌+◌, Bool, true, false, not, length, take, drop, nat_eq, nat_le, nat_lt, ◌==◌, ◌&&◌, ◌||◌, Option, Some, None, List, [], ◌∷◌, codes, find, position, unwrap_or, is_some, if◌then◌else◌}
-use Rattle.std.specs.List.{list_any, starts_with}
+use Rattle.std.specs.Prelude.{◌≡◌, ℕ, ◌+◌, Bool, true, false, not, length, drop, nat_eq, nat_lt, ◌==◌, ◌&&◌, ◌||◌, Option, Some, None, List, [], ◌∷◌, codes, is_some, if◌then◌else◌}
+use Rattle.std.specs.List.{starts_with}
 use Rattle.std.specs.Option.{option_map_or, option_or}
 use Rattle.std.specs.Char.{is_ascii_digit}
-use Rattle.tet_text.specs.Numbers.{number_of}
+use Rattle.command_words.specs.Meaning.{is_letter}
 use Rattle.command_words.specs.Names.{extension_of}
+use Rattle.command_words.specs.Words.{budget_at_front, digit_count, is_cluster, is_long, is_name, is_named, is_sampled, is_switched, name_of, number_at_front}
 use Rattle.command_words.specs.declared.options.Extension.{Extension}
 use Rattle.command_words.specs.declared.options.Extension.TheVariants.{Node, Poly, Smesh, Off, Stl}
 
--- ---- the three kinds of words
-
-abbrev pub has_hyphen : List ℕ → Bool
-has_hyphen word = starts_with nat_eq word (codes "-")
-
--- a long word begins with two hyphens
-abbrev pub is_long : List ℕ → Bool
-is_long word = starts_with nat_eq word (codes "--")
-
--- a cluster of switches begins with one hyphen
-abbrev pub is_cluster : List ℕ → Bool
-is_cluster word = has_hyphen word && not (is_long word)
-
--- a name is not empty and begins with no hyphen
-abbrev pub is_name : List ℕ → Bool
-is_name word = not (length word == 0) && not (has_hyphen word)
-
--- ---- numbers
-
--- how many digits stand at the front
-abbrev pub digit_count : List ℕ → ℕ
-digit_count text = unwrap_or (position (λ byte. not (is_ascii_digit byte)) text) (length text)
-
-abbrev pub within : ℕ → Option ℕ → Option ℕ
-within most None = None
-within most (Some n) = if nat_le n most then Some n else None
-
--- the number that all digits at the front write, where there are 1 to 9 of them and it is at most `most`
-abbrev pub number_at_front : ℕ → List ℕ → Option ℕ
-number_at_front most text = within most (number_of 9 (take (digit_count text) text))
-
 -- ---- clusters: a hyphen, then one or more switches, each of which is a letter of the table, or S (83) with its number
-
--- the letters of the table that have no number
-abbrev pub is_letter : ℕ → Bool
-is_letter byte = list_any (λ known. known == byte) (codes "pnfezcAQNEFMrCw")
-
--- the number of an S, where these bytes stand behind it: at most 100,000 points may be added
-abbrev pub budget_at_front : List ℕ → Option ℕ
-budget_at_front text = number_at_front 100000 text
 
 abbrev pub starts_with_digit : List ℕ → Bool
 starts_with_digit [] = false
@@ -92,22 +54,6 @@ long_fault halvings word =
     if starts_with nat_eq word (codes "--decimals=") then number_fault 12 20 (drop 11 word) else
     if starts_with nat_eq word (codes "--sample=") then number_fault 10 10000 (drop 9 word) else Some 3
 
--- the number of a long word with this front
-abbrev pub number_in : List ℕ → ℕ → List ℕ → Option ℕ
-number_in front most word = if starts_with nat_eq word front then number_at_front most (drop (length front) word) else None
-
--- what the last of the words gives for which this gives something, or else what stood before them
-abbrev pub last_from : (List ℕ → Option ℕ) → Option ℕ → List (List ℕ) → Option ℕ
-last_from number last [] = last
-last_from number last (word ∷ more) = last_from number (option_or (number word) last) more
-
--- the last number counts
-abbrev pub last_number : List ℕ → ℕ → List (List ℕ) → Option ℕ
-last_number front most words = last_from (number_in front most) None words
-
-abbrev pub sample_words : List (List ℕ) → Option ℕ
-sample_words words = last_number (codes "--sample=") 10000 words
-
 -- ---- all words
 
 -- the place of the fault of a word by itself, or None where it has none
@@ -126,27 +72,7 @@ bad_word_from halvings number named (word ∷ more) =
     else option_map_or (λ place. Some (number, place)) (word_fault halvings word)
     (bad_word_from halvings (number + 1) (named || is_name word) more)
 
--- the words have a name
-abbrev pub is_named : List (List ℕ) → Bool
-is_named words = list_any is_name words
-
--- the words ask for the sample
-abbrev pub is_sampled : List (List ℕ) → Bool
-is_sampled words = is_some (sample_words words)
-
 -- ---- switches that do not go together
-
--- the word is a cluster and has the letter
-abbrev pub has_switch : List ℕ → ℕ → Bool
-has_switch word letter = is_cluster word && list_any (λ l. l == letter) word
-
--- some cluster has the letter
-abbrev pub is_switched : List (List ℕ) → ℕ → Bool
-is_switched words letter = list_any (λ word. has_switch word letter) words
-
--- the first name among the words
-abbrev pub name_of : List (List ℕ) → List ℕ
-name_of words = unwrap_or (find is_name words) []
 
 -- the extension is that of a complex
 abbrev pub is_of_complex : Option Extension → Bool

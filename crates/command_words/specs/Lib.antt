@@ -1,4 +1,6 @@
 pub mod Names
-pub mod Grammar
+pub mod Words
+pub mod Formats
 pub mod Meaning
+pub mod Grammar
 pub mod Laws

@@ -1,13 +1,20 @@
--- What the words of the command line ask for.
+-- The letters of the command line, and what its words ask for.
 use Rattle.std.specs.Prelude.{ℕ, ◌≡◌, ◌≤◌, Bool, false, true, ◌==◌, ◌&&◌, ◌||◌, not, Option, Some, None, IfSome, List, [], ◌∷◌, codes, unwrap_or, if◌then◌else◌}
+use Rattle.std.specs.List.{list_any}
 use Rattle.std.specs.Option.{option_or}
 use Rattle.grid_coords.specs.Origins.{IsNearBy}
-use Rattle.command_words.specs.Grammar.{is_cluster, is_sampled, is_switched, name_of, budget_at_front, last_from, last_number, sample_words}
+use Rattle.command_words.specs.Formats.{no_formats}
 use Rattle.command_words.specs.Names.{extension_of, base_of}
-use Rattle.command_words.specs.declared.options.Formats.{Formats}
+use Rattle.command_words.specs.Words.{budget_at_front, is_cluster, is_sampled, is_switched, last_from, last_number, name_of, sample_words}
 use Rattle.command_words.specs.declared.options.Options.{Options}
 use Rattle.command_words.specs.declared.options.Extension.{Extension}
 use Rattle.command_words.specs.declared.options.Extension.TheVariants.{Node, Poly, Smesh, Off, Stl}
+
+-- ---- the letters
+
+-- the letters of the table that have no number
+abbrev pub is_letter : ℕ → Bool
+is_letter byte = list_any (λ known. known == byte) (codes "pnfezcAQNEFMrCw")
 
 -- ---- the number of S
 
@@ -33,10 +40,6 @@ is_piecewise asked (Some Off) = true
 is_piecewise asked (Some Stl) = true
 
 -- ---- the options
-
--- no file of the whole mesh in another format, and tetrahedra of first order
-abbrev pub no_formats : Formats
-no_formats = record { vtk = false; msh = false; second_order = false }
 
 -- What the words ask for; 112 is p, 110 n, 102 f, 101 e, 122 z, 99 c, 65 A, 81 Q, 78 N, 69 E, 70 F, 77 M, 114 r and 119
 -- w. For the sample no file is stored. The words ask for at most `halvings` halvings, and for that number where they

@@ -1,7 +1,7 @@
 //! The number of points that may be added.
 
 ghost use Rattle.std.specs.Prelude.{◌≡◌, ◌≤◌, IfSome, None};
-ghost use Rattle.command_words.specs.Grammar.{budget_at_front};
+ghost use Rattle.command_words.specs.Words.{budget_at_front};
 ghost use Rattle.command_words.specs.Meaning.{budget_from, budget_in, last_budget};
 
 use crate::grammar::is_cluster;

@@ -4,12 +4,12 @@ ghost use Rattle.std.specs.Prelude.{◌≡◌, ◌≤◌, ◌<◌, false, length
 ghost use Rattle.command_words.specs.Grammar.{are_at_odds, is_no_check, are_not_weighted, bad_word_from, cluster_fault, is_of_complex, names_complex, long_fault, number_fault, switches_fault, word_fault, words_fault_within};
 
 use crate::budget::budget_at_front;
-use crate::grammar::{is_cluster, is_letter, is_long, is_name, is_named, is_switched, name_of};
+use crate::grammar::{is_cluster, is_long, is_name, is_named, is_switched, name_of};
 use crate::names::extension_of;
 use crate::numbers::{
     DECIMALS, HALVINGS, MOST_DECIMALS, MOST_SAMPLE, SAMPLE, digit_count, number_at_front, sample_of,
 };
-use crate::options::Extension;
+use crate::options::{Extension, is_letter};
 use tet_ports::Words;
 
 /// The first fault of the words, which may ask for at most `halvings` halvings: the number of the

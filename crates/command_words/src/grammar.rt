@@ -1,7 +1,7 @@
 //! The three kinds of words.
 
 ghost use Rattle.std.specs.Prelude.{◌≡◌, ◌<◌, IsTrue, length};
-ghost use Rattle.command_words.specs.Grammar.{has_hyphen, is_cluster, is_letter, is_long, is_name, is_named, has_switch, is_switched, name_of};
+ghost use Rattle.command_words.specs.Words.{has_hyphen, is_cluster, is_long, is_name, is_named, has_switch, is_switched, name_of};
 
 use tet_ports::Words;
 
@@ -31,13 +31,6 @@ pub(crate) fn is_name(word: &[u8]) -> bool
     ensures { result ≡ is_name word.now }
 {
     !word.is_empty() && !has_hyphen(word)
-}
-
-/// Whether the byte is a switch that has no number.
-pub(crate) fn is_letter(byte: u8) -> bool
-    ensures { result ≡ is_letter byte }
-{
-    b"pnfezcAQNEFMrCw".contains(&byte)
 }
 
 /// Whether there is a name among the words.

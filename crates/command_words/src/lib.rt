@@ -4,15 +4,15 @@
 mod budget;
 mod fault;
 mod first_fault;
+mod formats;
 mod grammar;
 mod laws;
 mod names;
 mod numbers;
 mod options;
-mod reading;
 
 pub use fault::WordsFault;
+pub use formats::{Format, Formats, formats_of, has_word, is_format};
 pub use laws::law_switches;
 pub use names::{base_of, file_name, with_extension};
-pub use options::{Extension, Formats, Options};
-pub use reading::{read_words, read_words_within};
+pub use options::{Extension, Options, read_words, read_words_within};

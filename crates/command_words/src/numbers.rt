@@ -2,7 +2,7 @@
 
 ghost use Rattle.std.specs.Prelude.{◌≡◌, ◌<◌, ◌≤◌, IfSome, length, not, position};
 ghost use Rattle.std.specs.Char.{is_ascii_digit};
-ghost use Rattle.command_words.specs.Grammar.{digit_count, last_number, number_at_front, number_in, sample_words};
+ghost use Rattle.command_words.specs.Words.{digit_count, last_number, number_at_front, number_in, sample_words};
 
 use tet_ports::Words;
 use tet_text::read_digits;

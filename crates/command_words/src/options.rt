@@ -1,7 +1,21 @@
-//! What the words of the command line ask for, as a value.
+//! The letters of the command line, and what its words ask for, as a value.
 
+ghost use Rattle.std.specs.Prelude.{◌≡◌, ◌≤◌, ◌||◌, ◌&&◌, not, ℕ, Some, None, Err, IfOk, IsSome};
+ghost use Rattle.command_words.specs.Grammar.{words_fault, words_fault_within};
+ghost use Rattle.command_words.specs.Meaning.{is_letter, is_piecewise, options_of, options_within};
+ghost use Rattle.command_words.specs.Meaning.{AreInRange, AreOfSample};
+ghost use Rattle.command_words.specs.declared.fault.WordsFault.TheVariants.{Usage};
+
+use crate::budget::{MOST_BUDGET, last_budget};
+use crate::fault::WordsFault;
+use crate::first_fault::words_fault;
+use crate::formats::Formats;
+use crate::grammar::{is_switched, name_of};
+use crate::names::{base_of, extension_of};
+use crate::numbers::{DECIMALS, HALVINGS, MOST_DECIMALS, MOST_HALVINGS, last_number, sample_of};
 use grid_coords::WholePoint;
-use tet_ports::Name;
+use std::alloc::Global;
+use tet_ports::{Name, Words};
 
 /// The extension with which a name on the command line ends.
 #[derive(Clone, Copy, Debug, PartialEq, Eq)]
@@ -16,18 +30,6 @@ pub enum Extension {
     Off,
     /// A file of a surface made of triangles, ASCII `.stl`.
     Stl,
-}
-
-/// The files that have a whole mesh, in formats that viewers and solvers read, and the order of the
-/// tetrahedra in all files.
-#[derive(Clone, Copy, Debug, PartialEq, Eq)]
-pub struct Formats {
-    /// Write the `.vtk` file.
-    pub vtk: bool,
-    /// Write the `.msh` file.
-    pub msh: bool,
-    /// Write tetrahedra and faces of second order, which have the midpoints of their edges too.
-    pub second_order: bool,
 }
 
 /// What the words of the command line ask for.
@@ -87,4 +89,98 @@ pub struct Options {
     pub base: Name,
     /// The extension with which the name ends, if it is a known one.
     pub extension: Option<Extension>,
+}
+
+/// Whether the byte is a switch that has no number.
+pub(crate) fn is_letter(byte: u8) -> bool
+    ensures { result ≡ is_letter byte }
+{
+    b"pnfezcAQNEFMrCw".contains(&byte)
+}
+
+/// Reads the words of the command line of `tetgen`, which ask for at most 12 halvings.
+///
+/// `Usage` exactly where they are not in the grammar, with the first fault: the word's number and
+/// the place in it.
+/// The switches c, A, S and M are read also where no complex is meshed, and have no effect there.
+pub fn read_words(alloc: Global, words: &Words) -> Result<Options, WordsFault>
+    ensures understood { IfOk result (λ options. words_fault words.now ≡ None) }
+    ensures options { IfOk result (λ options. options ≡ options_of words.now) }
+    ensures usage { (word place : ℕ) → result ≡ Err (Usage word place)
+        → words_fault words.now ≡ Some (word, place) }
+    ensures ranges { IfOk result (λ options. AreInRange options) }
+    ensures halvings { IfOk result (λ options. options.halvings ≤ 12) }
+    ensures sampled { IfOk result (λ options. IsSome options.sample → AreOfSample options) }
+{
+    read_words_within(alloc, words, MOST_HALVINGS)
+}
+
+/// As `read_words`, for words that ask for at most `halvings` halvings, and for that number where
+/// they name none.
+pub fn read_words_within(alloc: Global, words: &Words, halvings: u32) -> Result<Options, WordsFault>
+    requires { halvings ≤ 18 }
+    ensures understood { IfOk result (λ options. words_fault_within halvings words.now ≡ None) }
+    ensures options { IfOk result (λ options. options ≡ options_within halvings words.now) }
+    ensures usage { (word place : ℕ) → result ≡ Err (Usage word place)
+        → words_fault_within halvings words.now ≡ Some (word, place) }
+    ensures ranges { IfOk result (λ options. AreInRange options) }
+    ensures halvings { IfOk result (λ options. options.halvings ≤ halvings) }
+    ensures sampled { IfOk result (λ options. IsSome options.sample → AreOfSample options) }
+{
+    if let Some((word, place)) = words_fault(halvings, words) {
+        return Err(WordsFault::Usage { word, place });
+    }
+    let name = name_of(words);
+    let extension = extension_of(name);
+    let sample = sample_of(words);
+    let sampled = sample.is_some();
+    Ok(Options {
+        piecewise: is_piecewise(is_switched(words, b'p') || sampled, extension),
+        neighbors: is_stored(is_switched(words, b'n'), sampled),
+        all_faces: is_switched(words, b'f'),
+        edges: is_switched(words, b'e'),
+        from_zero: is_switched(words, b'z'),
+        keep_hull: is_switched(words, b'c'),
+        regions: is_switched(words, b'A'),
+        quiet: is_switched(words, b'Q'),
+        no_node: is_left_out(is_switched(words, b'N'), sampled),
+        no_ele: is_left_out(is_switched(words, b'E'), sampled),
+        no_face: is_left_out(is_switched(words, b'F'), sampled),
+        formats: Formats::none(),
+        keep_facets: is_switched(words, b'M'),
+        check: is_switched(words, b'r'),
+        weighted: is_switched(words, b'w'),
+        budget: last_budget(words).unwrap_or(MOST_BUDGET),
+        halvings: last_number(HALVINGS, halvings, words).unwrap_or(halvings),
+        decimals: last_number(DECIMALS, MOST_DECIMALS, words),
+        origin: None,
+        sample,
+        base: Name::from_slice(alloc, base_of(name))?,
+        extension,
+    })
+}
+
+/// Whether a file is left out: the words ask for that, or for the sample, of which none is stored.
+fn is_left_out(asked: bool, sampled: bool) -> bool
+    ensures { result ≡ asked || sampled }
+{
+    asked || sampled
+}
+
+/// Whether a file is stored that the words ask for: not of the sample.
+fn is_stored(asked: bool, sampled: bool) -> bool
+    ensures { result ≡ asked && not sampled }
+{
+    asked && !sampled
+}
+
+/// Whether a complex is meshed, where `asked` says that the words ask for it.
+fn is_piecewise(asked: bool, extension: Option<Extension>) -> bool
+    ensures { result ≡ is_piecewise asked extension }
+{
+    match extension {
+        Some(Extension::Node) => false,
+        Some(Extension::Poly | Extension::Smesh | Extension::Off | Extension::Stl) => true,
+        None => asked,
+    }
 }

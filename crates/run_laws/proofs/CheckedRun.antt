@@ -26,8 +26,9 @@ use Rattle.run_laws.specs.NodeRead.{IsLegiblePoint}
 use Rattle.run_laws.specs.Checked.{AreThere}
 use Rattle.run_laws.proofs.Listed.{listed_names}
 use Rattle.run_laws.proofs.Checked.{checked_back}
-use Rattle.command_words.specs.Meaning.{no_formats, options_of}
-use Rattle.command_words.specs.declared.options.Formats.{Formats}
+use Rattle.command_words.specs.Formats.{no_formats}
+use Rattle.command_words.specs.Meaning.{options_of}
+use Rattle.command_words.specs.declared.formats.Formats.{Formats}
 use Rattle.command_words.specs.declared.options.Options.{Options}
 use Rattle.run_steps.proofs.Asked.{asked_by_face}
 use Rattle.run_steps.specs.Outputs.{AreFirstOutputsOf, first_of, named, whole_of}

@@ -4,7 +4,8 @@ use Rattle.std.specs.Prelude.{◌≢◌, codes}
 use Rattle.std.proofs.lemmas.List.Elements.{All-nil}
 use Rattle.std.specs.Fmt.{digits}
 use Rattle.command_words.specs.Grammar.{words_fault}
-use Rattle.command_words.specs.Meaning.{no_formats, options_of}
+use Rattle.command_words.specs.Formats.{no_formats}
+use Rattle.command_words.specs.Meaning.{options_of}
 use Rattle.command_words.specs.declared.options.Extension.TheVariants.{Poly}
 use Rattle.command_words.specs.declared.options.Options.{Options}
 use Rattle.complex_mesh.specs.declared.fault.MeshFault.TheVariants as fault

@@ -25,7 +25,7 @@ use Rattle.run_laws.specs.NodeRead.{IsPlainTable}
 use Rattle.run_laws.specs.Numbers.{AreMarkedShort}
 use Rattle.run_laws.proofs.Numbers.{IsShortWhole}
 use Rattle.run_laws.proofs.ReadTexts.{IsReadText, IsReadPlc, ArePlainRegions, node_short, form_plc, surface_plc}
-use Rattle.command_words.specs.Grammar.{is_cluster, budget_at_front, digit_count, within, last_from}
+use Rattle.command_words.specs.Words.{is_cluster, budget_at_front, digit_count, within, last_from}
 use Rattle.command_words.specs.Meaning.{options_of, budget_from, budget_in, last_budget}
 use Rattle.command_words.specs.declared.options.Extension.{Extension}
 use Rattle.command_words.specs.declared.options.Extension.TheVariants.{Node, Poly, Smesh, Off, Stl}

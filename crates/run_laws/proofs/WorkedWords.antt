@@ -1,7 +1,8 @@
 -- What the words of the runs ask for.
 use Rattle.std.specs.Prelude.{◌≡◌, refl, Bool, None, Some, codes, true, false, if◌then◌else◌}
 use Rattle.command_words.specs.Grammar.{words_fault}
-use Rattle.command_words.specs.Meaning.{no_formats, options_of}
+use Rattle.command_words.specs.Formats.{no_formats}
+use Rattle.command_words.specs.Meaning.{options_of}
 use Rattle.command_words.specs.declared.options.Options.{Options}
 use Rattle.command_words.specs.declared.options.Extension.TheVariants.{Node, Poly}
 use Rattle.run_laws.specs.Pyramid.{complex_start, full_start, plain_start}

@@ -2,7 +2,7 @@
 use Rattle.std.specs.Prelude.{◌≡◌, ℕ, ◌+◌, ◌-◌, Bool, true, false, not, ◌||◌, ◌&&◌, length, take, nat_eq, List, [], ◌∷◌, codes, Option, Some, None, Result, Ok, Err, if◌then◌else◌}
 use Rattle.std.specs.List.{list_any, ends_with}
 use Rattle.std.specs.Str.{bytes_eq}
-use Rattle.command_words.specs.Grammar.{is_name, name_of}
+use Rattle.command_words.specs.Words.{is_name, name_of}
 use Rattle.far_meshes.specs.Checking.{FarCheckAnswer}
 use Rattle.mesh_check.specs.Telling.{sound_line}
 use Rattle.mesh_check.specs.declared.fault.CheckFault.{CheckFault}

@@ -1,7 +1,7 @@
 -- Why a word is not understood.
 use Rattle.std.specs.Prelude.{ℕ, ◌-◌, ◌==◌, nat_eq, nat_lt, length, List, [], codes, if◌then◌else◌}
 use Rattle.std.specs.List.{slice_index_or, starts_with}
-use Rattle.command_words.specs.Grammar.{is_cluster, is_long, is_name}
+use Rattle.command_words.specs.Words.{is_cluster, is_long, is_name}
 use Rattle.tetfit_run.specs.Words.{is_shape, is_volume, keeps_boundary}
 use Rattle.tetfit_run.specs.declared.reason.Reason.{Reason}
 use Rattle.tetfit_run.specs.declared.reason.Reason.TheVariants.{Shapes, Shape, Volumes, Volume, Sizes, Boundary, Order, Insertion, Coarsening, Optimization, Tolerance, Exactness, Crossings, Voronoi, MeditFiles, Weights, Check, BesideCheck, OwnWord, Decimals, Sample, Number, NoSwitch, EmptyWord, SecondName, NoName, LongWord, Letter}

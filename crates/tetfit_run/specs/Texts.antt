@@ -1,7 +1,7 @@
 -- The line on a word that is not understood.
 use Rattle.std.specs.Prelude.{ℕ, ◌-◌, ◌&&◌, nat_lt, length, List, [], ◌∷◌, ◌++◌, codes, if◌then◌else◌}
 use Rattle.std.specs.List.{slice_index_or}
-use Rattle.command_words.specs.Grammar.{is_cluster}
+use Rattle.command_words.specs.Words.{is_cluster}
 use Rattle.tetfit_run.specs.declared.reason.Reason.{Reason}
 use Rattle.tetfit_run.specs.declared.reason.Reason.TheVariants.{Shapes, Shape, Volumes, Volume, Sizes, Boundary, Order, Insertion, Coarsening, Optimization, Tolerance, Exactness, Crossings, Voronoi, MeditFiles, Weights, Check, BesideCheck, OwnWord, Decimals, Sample, Number, NoSwitch, EmptyWord, SecondName, NoName, LongWord, Letter}
 use Rattle.tetfit_run.specs.Reasons.{why_no_check, why_not}

@@ -16,9 +16,10 @@ use Rattle.command_words.specs.declared.fault.WordsFault.{WordsFault}
 use Rattle.command_words.specs.declared.fault.WordsFault.TheVariants.{Usage, NoMemory}
 use Rattle.command_words.specs.declared.options.Extension.{Extension}
 use Rattle.command_words.specs.declared.options.Extension.TheVariants.{Off, Stl}
-use Rattle.command_words.specs.declared.options.Formats.{Formats}
+use Rattle.command_words.specs.declared.formats.Formats.{Formats}
 use Rattle.command_words.specs.declared.options.Options.{Options}
-use Rattle.command_words.specs.Grammar.{is_cluster, name_of, within, words_fault_within}
+use Rattle.command_words.specs.Grammar.{words_fault_within}
+use Rattle.command_words.specs.Words.{is_cluster, name_of, within}
 use Rattle.command_words.specs.Meaning.{options_within}
 use Rattle.command_words.specs.Names.{file_name, text_of}
 

@@ -1,7 +1,7 @@
 //! The words of a check, and the mesh that they name.
 
 ghost use Rattle.std.specs.Prelude.{◌≡◌};
-ghost use Rattle.command_words.specs.Grammar.{name_of};
+ghost use Rattle.command_words.specs.Words.{name_of};
 ghost use Rattle.tetfit_run.specs.Checks.{asks_quiet, check_base, check_fault, cut_end, goes_with_check, is_quiet, mesh_base};
 
 use crate::kinds::is_name;

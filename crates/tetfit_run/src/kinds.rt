@@ -2,7 +2,7 @@
 
 ghost use Rattle.std.specs.Prelude.{◌≡◌};
 ghost use Rattle.std.specs.List.{slice_index_or};
-ghost use Rattle.command_words.specs.Grammar.{is_cluster, is_long, is_name};
+ghost use Rattle.command_words.specs.Words.{is_cluster, is_long, is_name};
 
 /// The front of the long word that rounds coordinates.
 pub(crate) const DECIMALS: &[u8] = b"--decimals=";

@@ -1,7 +1,7 @@
 -- The words of the program that finds points: exactly two names.
 use Rattle.std.specs.Prelude.{ℕ, Bool, ◌&&◌, not, List, [], length, Option, Some, None, nat_lt, if◌then◌else◌}
 use Rattle.std.specs.List.{slice_index_or}
-use Rattle.command_words.specs.Grammar.{is_name}
+use Rattle.command_words.specs.Words.{is_name}
 
 -- a name stands at this place, from 0
 abbrev pub is_named_at : List (List ℕ) → ℕ → Bool

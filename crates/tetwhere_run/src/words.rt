@@ -1,7 +1,7 @@
 //! The words of the program that finds points in a mesh: the base of the mesh's files, and the
 //! name of a list of queries.
 ghost use Rattle.std.specs.Prelude.{◌≡◌, ◌<◌, ◌&&◌, None, length};
-ghost use Rattle.command_words.specs.Grammar.{is_name};
+ghost use Rattle.command_words.specs.Words.{is_name};
 ghost use Rattle.tetwhere_run.specs.Words.{is_named_at, bad_word};
 
 use tet_ports::Words;

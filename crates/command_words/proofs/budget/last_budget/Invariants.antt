@@ -1,6 +1,6 @@
 use Rattle.std.proofs.Common.{◌≡◌, ◌≤◌, drop}
 use Rattle.std.specs.Prelude.{IfSome}
-use Rattle.command_words.specs.Grammar.{last_from}
+use Rattle.command_words.specs.Words.{last_from}
 use Rattle.command_words.specs.Meaning.{budget_in, last_budget}
 use Rattle.command_words.proofs.budget.last_budget.Given as goal
 

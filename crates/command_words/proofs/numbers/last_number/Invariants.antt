@@ -1,6 +1,6 @@
 use Rattle.std.proofs.Common.{◌≡◌, ◌≤◌, drop}
 use Rattle.std.specs.Prelude.{IfSome}
-use Rattle.command_words.specs.Grammar.{last_number, last_from, number_in}
+use Rattle.command_words.specs.Words.{last_number, last_from, number_in}
 use Rattle.command_words.proofs.numbers.last_number.Given as goal
 
 -- the words that are left have the last number of all

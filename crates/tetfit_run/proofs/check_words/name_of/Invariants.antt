@@ -1,6 +1,6 @@
 use Rattle.std.proofs.Common.{◌≡◌, drop}
 use Rattle.std.specs.Prelude.{find}
-use Rattle.command_words.specs.Grammar.{is_name}
+use Rattle.command_words.specs.Words.{is_name}
 use Rattle.tetfit_run.proofs.check_words.name_of.Given as goal
 
 -- no word that was passed is a name

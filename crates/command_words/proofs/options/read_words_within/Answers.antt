@@ -1,13 +1,12 @@
 use Rattle.std.proofs.Common.{◌≡◌, ℕ, [], Option, None, ◌∙◌, sym, ap, true}
 use Rattle.std.specs.Prelude.{is_some, IsSome}
 use Rattle.command_words.proofs.Sampled.{name_of-sampled, left_out, not_stored}
-use Rattle.command_words.specs.Grammar.{sample_words}
+use Rattle.command_words.specs.Words.{sample_words}
 use Rattle.command_words.specs.Meaning.{is_piecewise}
 use Rattle.command_words.specs.Names.{base_of, extension_of}
-use Rattle.command_words.proofs.reading.read_words_within.Goals as goal
-use Rattle.command_words.proofs.reading.read_words_within.Goals.{then-is_switched, else-is_switched}
+use Rattle.command_words.proofs.options.read_words_within.Goals as goal
+use Rattle.command_words.proofs.options.read_words_within.Goals.{then-is_switched, else-is_switched}
 
--- src/reading.rt:22:1
 pub returns-clause-sampled : goal.returns-clause-sampled
 returns-clause-sampled c = λ h.
     let sampled : IsSome (sample_words c.args.words.now) = ap (λ (o : Option ℕ). is_some o) (sym c.sample_of-sample.ensures.value) ∙ h in
