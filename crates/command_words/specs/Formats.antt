@@ -1,5 +1,5 @@
 -- The formats of files that have a whole mesh, and the words that ask for them.
-use Rattle.std.specs.Prelude.{ℕ, Bool, true, false, not, ◌||◌, ◌==◌, List, [], ◌∷◌, ◌++◌, length, codes}
+use Rattle.std.specs.Prelude.{ℕ, Bool, true, false, ◌||◌, List, [], ◌∷◌, ◌++◌, codes}
 use Rattle.std.specs.Str.{bytes_eq}
 use Rattle.command_words.specs.Words.{has_word}
 use Rattle.command_words.specs.declared.formats.Format.{Format}
@@ -44,6 +44,10 @@ listed_if false format = []
 abbrev pub asked : Formats → List Format
 asked formats = listed_if formats.vtk Vtk ++ listed_if formats.msh Msh
 
+abbrev pub are_some : List Format → Bool
+are_some [] = false
+are_some (format ∷ more) = true
+
 -- a file of the whole mesh is asked for
 abbrev pub asks_whole : Formats → Bool
-asks_whole formats = not (length (asked formats) == 0)
+asks_whole formats = are_some (asked formats)

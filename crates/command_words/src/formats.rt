@@ -1,10 +1,9 @@
 //! The formats of files that have a whole mesh, and the words that ask for them.
 
 ghost use Rattle.std.specs.Prelude.{◌≡◌, IfOk};
-ghost use Rattle.std.specs.Str.{bytes_eq};
-ghost use Rattle.command_words.specs.Words.{has_word};
 ghost use Rattle.command_words.specs.Formats.{asked, asks_whole, ending_of, formats_of, is_format, no_formats, word_of};
 
+use crate::grammar::{has_word, is_word};
 use std::alloc::Global;
 use tet_ports::{Items, NoMemory, Words};
 
@@ -86,22 +85,6 @@ impl Formats {
     {
         self.vtk || self.msh
     }
-}
-
-fn is_word(word: &[u8], wanted: &[u8]) -> bool
-    ensures { result ≡ bytes_eq word.now wanted.now }
-{
-    word == wanted
-}
-
-/// Whether this word is among the words.
-pub fn has_word(words: &Words, wanted: &[u8]) -> bool
-    ensures { result ≡ has_word words.now wanted.now }
-{
-    words
-        .as_slice()
-        .iter()
-        .any(|word| is_word(word.as_slice(), wanted))
 }
 
 /// Whether the word asks for a file of the whole mesh, or for second order: `-k` for the `.vtk`

@@ -1,7 +1,8 @@
 //! The three kinds of words.
 
+ghost use Rattle.std.specs.Str.{bytes_eq};
 ghost use Rattle.std.specs.Prelude.{◌≡◌, ◌<◌, IsTrue, length};
-ghost use Rattle.command_words.specs.Words.{has_hyphen, is_cluster, is_long, is_name, is_named, has_switch, is_switched, name_of};
+ghost use Rattle.command_words.specs.Words.{has_word, has_hyphen, is_cluster, is_long, is_name, is_named, has_switch, is_switched, name_of};
 
 use tet_ports::Words;
 
@@ -67,4 +68,21 @@ pub(crate) fn name_of(words: &Words) -> &[u8]
         }
     }
     b""
+}
+
+/// Whether the word is this one.
+pub fn is_word(word: &[u8], wanted: &[u8]) -> bool
+    ensures { result ≡ bytes_eq word.now wanted.now }
+{
+    word == wanted
+}
+
+/// Whether this word is among the words.
+pub fn has_word(words: &Words, wanted: &[u8]) -> bool
+    ensures { result ≡ has_word words.now wanted.now }
+{
+    words
+        .as_slice()
+        .iter()
+        .any(|word| is_word(word.as_slice(), wanted))
 }

@@ -12,7 +12,8 @@ mod numbers;
 mod options;
 
 pub use fault::WordsFault;
-pub use formats::{Format, Formats, formats_of, has_word, is_format};
+pub use formats::{Format, Formats, formats_of, is_format};
+pub use grammar::{has_word, is_word};
 pub use laws::law_switches;
 pub use names::{base_of, file_name, with_extension};
 pub use options::{Extension, Options, read_words, read_words_within};

@@ -258,8 +258,7 @@ module _ (halvings : ℕ) (options : Options) where
     face_is = h.face_is;
     edge_is = h.edge_is;
     neigh_is = h.neigh_is;
-    vtk_is = h.vtk_is;
-    msh_is = h.msh_is;
+    whole_is = h.whole_is;
     report_is = h.report_is;
     count_is = h.count_is;
   }

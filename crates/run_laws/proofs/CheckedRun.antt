@@ -1,7 +1,8 @@
 -- The check of the files that a run leaves.
-use Rattle.std.proofs.Common.{◌≡◌, ◌⊎◌, inl, inr, ℕ, ◌+◌, ◌<◌, ◌≤◌, Bool, true, false, List, [], ◌∷◌, ◌++◌, length, Option, None, Some, Ok, refl, ap, sym, subst, ◌∙◌, arith, append_assoc}
+use Rattle.std.proofs.Common.{◌≡◌, ◌⊎◌, inl, inr, ℕ, ◌+◌, ◌<◌, ◌≤◌, Bool, true, false, List, [], ◌∷◌, ◌++◌, length, Option, None, Some, Ok, map as mapped, refl, ap, sym, subst, ◌∙◌, arith, append_assoc}
 use Rattle.std.specs.Prelude.{All, IfSome, codes, not, ◌||◌, ◌&&◌, if◌then◌else◌}
 use Rattle.std.specs.List.{range_with_len}
+use Rattle.std.proofs.lemmas.List.{append-nil}
 use Rattle.std.specs.FinMap as map
 use Rattle.sign_predicates.specs.Point.{Point}
 use Rattle.geo_laws.specs.Delaunay.{IsOn}
@@ -26,15 +27,14 @@ use Rattle.run_laws.specs.NodeRead.{IsLegiblePoint}
 use Rattle.run_laws.specs.Checked.{AreThere}
 use Rattle.run_laws.proofs.Listed.{listed_names}
 use Rattle.run_laws.proofs.Checked.{checked_back}
-use Rattle.command_words.specs.Formats.{no_formats}
+use Rattle.command_words.specs.Formats.{asked, asks_whole, no_formats}
 use Rattle.command_words.specs.Meaning.{options_of}
 use Rattle.command_words.specs.declared.formats.Formats.{Formats}
 use Rattle.command_words.specs.declared.options.Options.{Options}
 use Rattle.run_steps.proofs.Asked.{asked_by_face}
-use Rattle.run_steps.specs.Outputs.{AreFirstOutputsOf, first_of, named, whole_of}
+use Rattle.run_steps.specs.Outputs.{AreFirstOutputsOf, first_of, format_file, named, whole_of}
 use Rattle.run_steps.specs.Stores.{given, in_order, with_files}
-use Rattle.solver_files.specs.Msh.{msh_text}
-use Rattle.solver_files.specs.Vtk.{vtk_text}
+use Rattle.solver_files.specs.Formats.{whole_text}
 use Rattle.run_steps.specs.declared.meshed.Meshed.{Meshed}
 use Rattle.run_steps.specs.declared.outputs.Outputs.{Outputs}
 use Rattle.run_steps.specs.declared.store.NamedText.{NamedText}
@@ -43,7 +43,7 @@ use Rattle.tetgen_run.specs.Run.{AnswerBy}
 use Rattle.run_laws.proofs.SoundRun.{sound_run}
 use Rattle.run_laws.specs.CheckedRun.{AreCheckable, CheckedRunLaw, CheckedAfterLaw}
 use Rattle.run_laws.proofs.Lengths.{ele_long_of, face_long}
-use Rattle.run_laws.proofs.Stored.{IsUnder, AreFiles, all_held, after, first_given, without_two, node_held, ele_held, face_held, neigh_held, neigh_kept}
+use Rattle.run_laws.proofs.Stored.{IsUnder, AreFiles, all_held, after, first_given, node_held, ele_held, face_held, neigh_held, neigh_kept}
 use Rattle.run_laws.proofs.ReadInputs.{HasInputNumbers, input_numbers, plain_table}
 use Rattle.run_laws.proofs.Tables.{IsOfTable, HasRegionMarks, of_table, region_marks, short_markers}
 
@@ -76,7 +76,7 @@ module _ (options : Options) (mesh : Meshed) (outputs : Outputs) (are : AreFirst
 
   faces_are : AreFaceRowsOf mesh.points mesh.tetrahedra mesh.complex mesh.triangles options.all_faces faces
   unfolding faces
-  faces_are = are.marked_are (asked_by_face options.no_face options.formats.vtk options.formats.msh can.faces_there)
+  faces_are = are.marked_are (asked_by_face options.no_face (asks_whole options.formats) can.faces_there)
 
   -- the files
   node_there : outputs.texts.node ≡ Some (named options.base (codes ".1.node") (node_text mesh.table mesh.added first))
@@ -93,18 +93,24 @@ module _ (options : Options) (mesh : Meshed) (outputs : Outputs) (are : AreFirst
   unfolding first faces
   face_there = are.face_is ∙ ap (λ (b : Bool). if b then None else Some (named options.base (codes ".1.face") (face_text mesh.names (first_of options mesh) are.marked))) can.faces_there
 
-  no_vtk : outputs.texts.vtk ≡ None
-  no_vtk = are.vtk_is ∙ ap (λ (f : Formats). if not f.vtk then None else Some (named options.base (codes ".1.vtk") (vtk_text (whole_of options.origin mesh are.marked)))) alone
-
-  no_msh : outputs.texts.msh ≡ None
-  no_msh = are.msh_is ∙ ap (λ (f : Formats). if not f.msh then None else Some (named options.base (codes ".1.msh") (msh_text (whole_of options.origin mesh are.marked)))) alone
+  no_whole : outputs.texts.whole ≡ []
+  no_whole = are.whole_is ∙ ap (λ (f : Formats). mapped (format_file options (whole_text (whole_of options.origin mesh are.marked))) (asked f)) alone
 
   abbrev IsFewBytes : NamedText → Type 0
   IsFewBytes text = length text.content ≤ most_bytes
 
+  texts_given : List (Option NamedText)
+  texts_given = outputs.texts.node ∷ outputs.texts.ele ∷ outputs.texts.face ∷ outputs.texts.edge ∷ outputs.texts.neigh ∷ []
+
+  few_given : All IsFewBytes (given texts_given)
+  unfolding texts_given
+  few_given =
+      subst (All IsFewBytes) (ap (λ (whole : List NamedText). given texts_given ++ whole) no_whole ∙ append-nil (given texts_given)) can.few_bytes
+
   each_few : IfSome outputs.texts.node IsFewBytes × IfSome outputs.texts.ele IsFewBytes × IfSome outputs.texts.face IsFewBytes × IfSome outputs.texts.neigh IsFewBytes
+  unfolding texts_given
   each_few =
-      let a = first_given IsFewBytes outputs.texts.node _ can.few_bytes in
+      let a = first_given IsFewBytes outputs.texts.node _ few_given in
       let b = first_given IsFewBytes outputs.texts.ele _ a.1 in
       let c = first_given IsFewBytes outputs.texts.face _ b.1 in
       let d = first_given IsFewBytes outputs.texts.edge _ c.1 in
@@ -194,11 +200,8 @@ module _ (options : Options) (mesh : Meshed) (outputs : Outputs) (are : AreFirst
     these_left : seen.files_before ≡ with_files (Some before) (given texts)
     unfolding texts
     these_left =
-        let t = outputs.texts in
-        left ∙ ap (λ (found : List NamedText). with_files (Some before) found)
-        (ap (λ (o : Option NamedText). given (t.node ∷ t.ele ∷ t.face ∷ t.edge ∷ t.neigh ∷ o ∷ t.msh ∷ [])) no_vtk
-        ∙ ap (λ (o : Option NamedText). given (t.node ∷ t.ele ∷ t.face ∷ t.edge ∷ t.neigh ∷ None ∷ o ∷ [])) no_msh
-        ∙ without_two (t.node ∷ t.ele ∷ t.face ∷ t.edge ∷ t.neigh ∷ []))
+        left ∙ ap (λ (whole : List NamedText). with_files (Some before) (given texts ++ whole)) no_whole
+        ∙ ap (λ (found : List NamedText). with_files (Some before) found) (append-nil (given texts))
 
     -- what a name holds in the end
     holds : (name content : List ℕ) → all_held name texts (map.get before name) ≡ Some content → Holds seen.files_before name content
@@ -266,7 +269,7 @@ checked_run words folder outputs run plain can before fresh seen left =
     let numbers = input_numbers words folder run.input run.bound run.mesh plain run.read run.on_grid run.made in
     let marks = region_marks options run.bound run.mesh plain run.made in
     checked options run.mesh outputs run.outputs_are can table numbers marks on refl refl before fresh seen left
-    (sound_run options run.bound run.mesh plain run.made options.all_faces run.outputs_are.marked (run.outputs_are.marked_are (asked_by_face options.no_face options.formats.vtk options.formats.msh can.faces_there)))
+    (sound_run options run.bound run.mesh plain run.made options.all_faces run.outputs_are.marked (run.outputs_are.marked_are (asked_by_face options.no_face (asks_whole options.formats) can.faces_there)))
 
 -- what the later run answers
 pub checked_after : CheckedAfterLaw

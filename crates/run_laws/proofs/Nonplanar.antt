@@ -4,7 +4,6 @@ use Rattle.std.specs.Prelude.{◌≢◌, codes}
 use Rattle.std.proofs.lemmas.List.Elements.{All-nil}
 use Rattle.std.specs.Fmt.{digits}
 use Rattle.command_words.specs.Grammar.{words_fault}
-use Rattle.command_words.specs.Formats.{no_formats}
 use Rattle.command_words.specs.Meaning.{options_of}
 use Rattle.command_words.specs.declared.options.Extension.TheVariants.{Poly}
 use Rattle.command_words.specs.declared.options.Options.{Options}
@@ -44,30 +43,7 @@ use Rattle.run_laws.proofs.NonplanarText.{apart, complex_is, corners_are_there, 
 
 -- a complex of a `.poly` file, and no switch
 abbrev asking : Options
-asking = record {
-  piecewise = true;
-  neighbors = false;
-  all_faces = false;
-  edges = false;
-  from_zero = false;
-  keep_hull = false;
-  regions = false;
-  quiet = false;
-  no_node = false;
-  no_ele = false;
-  no_face = false;
-  formats = no_formats;
-  keep_facets = false;
-  check = false;
-  weighted = false;
-  budget = 100000;
-  halvings = 12;
-  decimals = None;
-  origin = None;
-  sample = None;
-  base = codes "nonplanar";
-  extension = Some Poly;
-}
+asking = record (options_of []) { piecewise = true; base = codes "nonplanar"; extension = Some Poly }
 
 understood : words_fault nonplanar_start.words ≡ None
 understood = refl

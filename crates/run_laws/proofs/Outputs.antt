@@ -59,8 +59,7 @@ plain_are complex = record {
   face_is = refl;
   edge_is = refl;
   neigh_is = refl;
-  vtk_is = refl;
-  msh_is = refl;
+  whole_is = refl;
   report_is = refl;
   count_is = refl;
 }
@@ -79,8 +78,7 @@ full_are = record {
   face_is = refl;
   edge_is = refl;
   neigh_is = refl;
-  vtk_is = refl;
-  msh_is = refl;
+  whole_is = refl;
   report_is = refl;
   count_is = refl;
 }

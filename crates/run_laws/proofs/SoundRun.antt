@@ -1,6 +1,7 @@
 -- The mesh of a run is that of a complex, or the Delaunay list of points.
 use Rattle.std.proofs.Common.{◌≡◌, Bool, true, false, List, sym, subst}
 use Rattle.std.specs.Prelude.{Ok}
+use Rattle.command_words.specs.Formats.{asks_whole}
 use Rattle.command_words.specs.Meaning.{options_of}
 use Rattle.command_words.specs.declared.options.Options.{Options}
 use Rattle.mesh_files.specs.FaceRows.{AreFaceRowsOf}
@@ -34,7 +35,7 @@ pub sound_outputs : SoundOutputsLaw
 sound_outputs options bound mesh outputs plain answer are no_face = record {
   faces = are.marked;
   written = are.face_is;
-  sound = sound_run options bound mesh plain answer options.all_faces are.marked (are.marked_are (asked_by_face options.no_face options.formats.vtk options.formats.msh no_face));
+  sound = sound_run options bound mesh plain answer options.all_faces are.marked (are.marked_are (asked_by_face options.no_face (asks_whole options.formats) no_face));
 }
 
 pub sound_left : SoundLeftLaw

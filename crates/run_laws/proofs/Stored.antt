@@ -72,12 +72,6 @@ pub first_given : (P : NamedText → Type 0) (o : Option NamedText) (os : List (
 first_given P None os all = (tt, all)
 first_given P (Some text) os all = (all 0 text (omega arith), λ k d lt. all (suc k) d (omega arith))
 
--- texts that are not there are passed over
-pub without_two : (os : List (Option NamedText)) → given (os ++ (None ∷ None ∷ [])) ≡ given os
-without_two [] = refl
-without_two (None ∷ os) = without_two os
-without_two (Some text ∷ os) = ap (λ (texts : List NamedText). text ∷ texts) (without_two os)
-
 -- the files of a mesh: each text that is there has its extension
 pub record AreFiles (base : List ℕ) (node ele face edge neigh : Option NamedText) : Type 0 where
   pub node_under : IsUnder base (codes ".1.node") node

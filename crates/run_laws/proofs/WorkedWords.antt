@@ -1,7 +1,6 @@
 -- What the words of the runs ask for.
-use Rattle.std.specs.Prelude.{◌≡◌, refl, Bool, None, Some, codes, true, false, if◌then◌else◌}
+use Rattle.std.specs.Prelude.{◌≡◌, refl, Bool, None, Some, [], codes, true, false, if◌then◌else◌}
 use Rattle.command_words.specs.Grammar.{words_fault}
-use Rattle.command_words.specs.Formats.{no_formats}
 use Rattle.command_words.specs.Meaning.{options_of}
 use Rattle.command_words.specs.declared.options.Options.{Options}
 use Rattle.command_words.specs.declared.options.Extension.TheVariants.{Node, Poly}
@@ -9,27 +8,12 @@ use Rattle.run_laws.specs.Pyramid.{complex_start, full_start, plain_start}
 
 -- with or without neighbors, all faces and edges; and points alone, or a complex with its hull kept
 abbrev pub asking : Bool → Bool → Options
-asking full complex = record {
+asking full complex = record (options_of []) {
   piecewise = complex;
   neighbors = full;
   all_faces = full;
   edges = full;
-  from_zero = false;
   keep_hull = complex;
-  regions = false;
-  quiet = false;
-  no_node = false;
-  no_ele = false;
-  no_face = false;
-  formats = no_formats;
-  keep_facets = false;
-  check = false;
-  weighted = false;
-  budget = 100000;
-  halvings = 12;
-  decimals = None;
-  origin = None;
-  sample = None;
   base = codes "pyramid";
   extension = Some (if complex then Poly else Node);
 }

@@ -107,8 +107,7 @@ plain_outputs = record {
         (pyramid_face_text hull_bytes);
     edge = None;
     neigh = None;
-    vtk = None;
-    msh = None;
+    whole = [];
   };
   report = Some pyramid_report;
   tetrahedra = 2;
@@ -123,8 +122,7 @@ full_outputs = record {
     face = Some (pyramid_face_text face_bytes);
     edge = Some pyramid_edge_text;
     neigh = Some pyramid_neigh_text;
-    vtk = None;
-    msh = None;
+    whole = [];
   };
   report = Some pyramid_report;
   tetrahedra = 2;

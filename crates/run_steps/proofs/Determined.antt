@@ -11,11 +11,11 @@ use Rattle.geo_laws.proofs.Ascending.{Rises, none, more, rises-same}
 use Rattle.mesh_files.specs.FaceRows.{corners_of, AreFaceRowsOf, IsFaceRow}
 use Rattle.mesh_files.specs.Texts.{face_text, edge_text}
 use Rattle.mesh_files.specs.declared.markers.FaceRow.{FaceRow}
-use Rattle.run_steps.proofs.Asked.{asked_by_face, asked_by_msh, asked_by_vtk}
-use Rattle.run_steps.specs.Outputs.{named, first_of, face_file, edge_file, neigh_file, vtk_file, msh_file, whole_of, summary_of, report_of, names_sides, asks_faces}
+use Rattle.run_steps.proofs.Asked.{asked_by_face, asked_by_whole, of_each}
+use Rattle.run_steps.specs.Outputs.{named, first_of, face_file, edge_file, neigh_file, format_file, mesh_format_files, whole_of, summary_of, report_of, names_sides, asks_faces}
 use Rattle.run_steps.specs.Outputs.{is_second_order, second_in, second_texts, AreFirstOutputsOf, AreOutputsIn, AreOutputsOf, AreSecondOutputsOf}
-use Rattle.solver_files.specs.Msh.{msh_text}
-use Rattle.solver_files.specs.Vtk.{vtk_text}
+use Rattle.solver_files.specs.Formats.{whole_text}
+use Rattle.command_words.specs.Formats.{asks_whole}
 use Rattle.run_steps.specs.declared.meshed.Meshed.{Meshed}
 use Rattle.run_steps.specs.declared.outputs.Outputs.{Outputs}
 use Rattle.run_steps.specs.declared.store.Texts.{Texts}
@@ -95,13 +95,12 @@ module _ (options : Options) (mesh : Meshed) (p q : Outputs) (a : AreFirstOutput
   sides_same e = sides_once mesh.tetrahedra a.sides b.sides (a.sides_are e) (b.sides_are e)
 
   face_files : face_file options mesh a.marked ≡ face_file options mesh b.marked
-  face_files = choice options.no_face _ _ None (λ e. ap (λ (m : List FaceRow). Some (named options.base (codes ".1.face") (face_text mesh.names (first_of options mesh) m))) (marked_same (asked_by_face options.no_face options.formats.vtk options.formats.msh e)))
+  face_files = choice options.no_face _ _ None (λ e. ap (λ (m : List FaceRow). Some (named options.base (codes ".1.face") (face_text mesh.names (first_of options mesh) m))) (marked_same (asked_by_face options.no_face (asks_whole options.formats) e)))
 
-  vtk_files : vtk_file options mesh a.marked ≡ vtk_file options mesh b.marked
-  vtk_files = choice (not options.formats.vtk) _ _ None (λ e. ap (λ (m : List FaceRow). Some (named options.base (codes ".1.vtk") (vtk_text (whole_of options.origin mesh m)))) (marked_same (asked_by_vtk options.no_face options.formats.vtk options.formats.msh e)))
-
-  msh_files : msh_file options mesh a.marked ≡ msh_file options mesh b.marked
-  msh_files = choice (not options.formats.msh) _ _ None (λ e. ap (λ (m : List FaceRow). Some (named options.base (codes ".1.msh") (msh_text (whole_of options.origin mesh m)))) (marked_same (asked_by_msh options.no_face options.formats.vtk options.formats.msh e)))
+  whole_files : mesh_format_files options mesh a.marked ≡ mesh_format_files options mesh b.marked
+  whole_files =
+      of_each options.formats (format_file options (whole_text (whole_of options.origin mesh a.marked))) (format_file options (whole_text (whole_of options.origin mesh b.marked)))
+      (λ e. ap (λ (m : List FaceRow). format_file options (whole_text (whole_of options.origin mesh m))) (marked_same (asked_by_whole options.no_face (asks_whole options.formats) e)))
 
   edge_files : edge_file options mesh a.sides ≡ edge_file options mesh b.sides
   edge_files =
@@ -118,11 +117,10 @@ module _ (options : Options) (mesh : Meshed) (p q : Outputs) (a : AreFirstOutput
       let face = a.face_is ∙ face_files ∙ sym b.face_is in
       let edge = a.edge_is ∙ edge_files ∙ sym b.edge_is in
       let neigh = a.neigh_is ∙ sym b.neigh_is in
-      let vtk = a.vtk_is ∙ vtk_files ∙ sym b.vtk_is in
-      let msh = a.msh_is ∙ msh_files ∙ sym b.msh_is in
+      let whole = a.whole_is ∙ whole_files ∙ sym b.whole_is in
       let report = a.report_is ∙ reports ∙ sym b.report_is in
       let count = a.count_is ∙ sym b.count_is in
-      λ i. record { texts = record { node = node i; ele = ele i; face = face i; edge = edge i; neigh = neigh i; vtk = vtk i; msh = msh i }; report = report i; tetrahedra = count i }
+      λ i. record { texts = record { node = node i; ele = ele i; face = face i; edge = edge i; neigh = neigh i; whole = whole i }; report = report i; tetrahedra = count i }
 
 -- of second order
 module _ (options : Options) (mesh : Meshed) (p q : Outputs) (a : AreSecondOutputsOf options mesh p) (b : AreSecondOutputsOf options mesh q) where

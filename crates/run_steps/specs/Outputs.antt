@@ -1,5 +1,5 @@
 -- The files and the summary of a mesh.
-use Rattle.std.specs.Prelude.{◌≡◌, ℕ, ◌+◌, ◌<◌, ◌^◌, nat_lt, Bool, true, false, ◌||◌, ◌&&◌, not, List, [], ◌++◌, length, All, AllPairs, Option, Some, None, IfSome, codes, if◌then◌else◌}
+use Rattle.std.specs.Prelude.{◌≡◌, ℕ, ◌+◌, ◌<◌, ◌^◌, nat_lt, Bool, true, false, ◌||◌, ◌&&◌, not, List, [], ◌++◌, length, map, All, AllPairs, Option, Some, None, IfSome, codes, if◌then◌else◌}
 use Rattle.geo_laws.specs.Delaunay.{numbers, RowBefore}
 use Rattle.geo_laws.specs.Faces.{AreFacesOf, AreHullFacesOf, AreSidesOf}
 use Rattle.geo_laws.specs.declared.faces.Face.{Face}
@@ -10,11 +10,10 @@ use Rattle.mesh_files.specs.Texts.{ele_text_of, face_text, edge_text, neigh_text
 use Rattle.mesh_files.specs.declared.markers.FaceRow.{FaceRow}
 use Rattle.node_files.specs.Writing.{node_text_from, IsNodeTable}
 use Rattle.grid_coords.specs.declared.origin.WholePoint.{WholePoint}
+use Rattle.solver_files.specs.Formats.{second_whole_text, whole_text}
 use Rattle.solver_files.specs.Mesh.{Mesh as WholeMesh}
-use Rattle.solver_files.specs.Msh.{msh_text}
 use Rattle.solver_files.specs.Second.{Second}
-use Rattle.solver_files.specs.SecondTexts.{second_ele_text, second_face_text, second_msh_text, second_node_text, second_vtk_text}
-use Rattle.solver_files.specs.Vtk.{vtk_text}
+use Rattle.solver_files.specs.SecondTexts.{second_ele_text, second_face_text, second_node_text}
 use Rattle.run_steps.specs.declared.meshed.Meshed.{Meshed}
 use Rattle.run_steps.specs.declared.outputs.Outputs.{Outputs}
 use Rattle.run_steps.specs.declared.outputs.FaceFiles.{FaceFiles}
@@ -25,6 +24,8 @@ use Rattle.run_steps.specs.declared.report.Report.TheVariants.{Mesh}
 use Rattle.run_steps.specs.declared.report.Summary.{Summary}
 use Rattle.run_steps.specs.declared.store.NamedText.{NamedText}
 use Rattle.run_steps.specs.declared.store.Texts.{Texts}
+use Rattle.command_words.specs.Formats.{asked, asks_whole, ending_of}
+use Rattle.command_words.specs.declared.formats.Format.{Format}
 use Rattle.command_words.specs.declared.options.Options.{Options}
 
 -- a text under the base with an extension
@@ -75,13 +76,17 @@ whole_of origin mesh faces = record {
   names = mesh.names;
 }
 
-abbrev pub vtk_file : Options → Meshed → List FaceRow → Option NamedText
-vtk_file options mesh faces =
-    if not options.formats.vtk then None else Some (named options.base (codes ".1.vtk") (vtk_text (whole_of options.origin mesh faces)))
+-- the file of a whole mesh in a format, by its text in each
+abbrev pub format_file : Options → (Format → List ℕ) → Format → NamedText
+format_file options text format = named options.base (ending_of format) (text format)
 
-abbrev pub msh_file : Options → Meshed → List FaceRow → Option NamedText
-msh_file options mesh faces =
-    if not options.formats.msh then None else Some (named options.base (codes ".1.msh") (msh_text (whole_of options.origin mesh faces)))
+-- the files of a whole mesh in the formats that are asked for
+abbrev pub format_files : Options → (Format → List ℕ) → List NamedText
+format_files options text = map (format_file options text) (asked options.formats)
+
+-- and of this one, with these faces
+abbrev pub mesh_format_files : Options → Meshed → List FaceRow → List NamedText
+mesh_format_files options mesh faces = format_files options (whole_text (whole_of options.origin mesh faces))
 
 -- the counts that sum up a mesh with these numbers of faces and edges
 abbrev pub summary_of : Meshed → ℕ → ℕ → Summary
@@ -108,7 +113,7 @@ names_sides options = not options.quiet || (not options.no_face && options.edges
 
 -- whether a file with faces is asked for: the face file, or one of the whole mesh
 abbrev pub asks_faces : Options → Bool
-asks_faces options = not options.no_face || (options.formats.vtk || options.formats.msh)
+asks_faces options = not options.no_face || asks_whole options.formats
 
 -- whether the options ask for no faces but those on the hull and in facets
 abbrev pub asks_hull_alone : Options → Bool
@@ -143,8 +148,7 @@ pub record AreFaceFilesOf (options : Options) (mesh : Meshed) (files : FaceFiles
   pub marked_are : asks_faces options ≡ true
       → AreFaceRowsOf mesh.points mesh.tetrahedra mesh.complex mesh.triangles options.all_faces marked
   pub face_is : files.face ≡ face_file options mesh marked
-  pub vtk_is : files.vtk ≡ vtk_file options mesh marked
-  pub msh_is : files.msh ≡ msh_file options mesh marked
+  pub whole_is : files.whole ≡ mesh_format_files options mesh marked
 
 -- the face outputs of a mesh, where a file or the summary needs them
 pub record AreFaceOutputsOf (options : Options) (mesh : Meshed) (outputs : FaceOutputs) : Type 0 where
@@ -154,8 +158,7 @@ pub record AreFaceOutputsOf (options : Options) (mesh : Meshed) (outputs : FaceO
   pub faces : List Face
   pub faces_are : options.quiet ≡ false → AreFacesOf mesh.tetrahedra faces
   pub face_is : outputs.files.face ≡ face_file options mesh marked
-  pub vtk_is : outputs.files.vtk ≡ vtk_file options mesh marked
-  pub msh_is : outputs.files.msh ≡ msh_file options mesh marked
+  pub whole_is : outputs.files.whole ≡ mesh_format_files options mesh marked
   pub neigh_is : outputs.neigh ≡ neigh_file options mesh
   pub count_is : outputs.count ≡ length faces
 
@@ -181,8 +184,7 @@ pub record AreFirstOutputsOf (options : Options) (mesh : Meshed) (outputs : Outp
   pub face_is : outputs.texts.face ≡ face_file options mesh marked
   pub edge_is : outputs.texts.edge ≡ edge_file options mesh sides
   pub neigh_is : outputs.texts.neigh ≡ neigh_file options mesh
-  pub vtk_is : outputs.texts.vtk ≡ vtk_file options mesh marked
-  pub msh_is : outputs.texts.msh ≡ msh_file options mesh marked
+  pub whole_is : outputs.texts.whole ≡ mesh_format_files options mesh marked
   pub report_is : outputs.report ≡ report_of options mesh (length faces) (length sides)
   pub count_is : outputs.tetrahedra ≡ length mesh.tetrahedra
 
@@ -201,12 +203,6 @@ second_ele_file options first m = if options.no_ele then None else Some (named o
 abbrev pub second_face_file : Options → ℕ → Second → Option NamedText
 second_face_file options first m = if options.no_face then None else Some (named options.base (codes ".1.face") (second_face_text m first))
 
-abbrev pub second_vtk_file : Options → Second → Option NamedText
-second_vtk_file options m = if not options.formats.vtk then None else Some (named options.base (codes ".1.vtk") (second_vtk_text m))
-
-abbrev pub second_msh_file : Options → Second → Option NamedText
-second_msh_file options m = if not options.formats.msh then None else Some (named options.base (codes ".1.msh") (second_msh_text m))
-
 -- The files of second order, with those of edges and of neighbors
 abbrev pub second_texts : Options → ℕ → Option NamedText → Option NamedText → Second → Texts
 second_texts options first edge neigh m = record {
@@ -215,8 +211,7 @@ second_texts options first edge neigh m = record {
   face = second_face_file options first m;
   edge = edge;
   neigh = neigh;
-  vtk = second_vtk_file options m;
-  msh = second_msh_file options m;
+  whole = format_files options (second_whole_text m);
 }
 
 -- The files of second order and the summary of a mesh; those of edges and of neighbors are as ever. Faces and edges are

@@ -14,7 +14,7 @@ given (Some text ∷ more) = text ∷ given more
 
 -- the texts in the order in which they are stored
 abbrev pub in_order : Texts → List NamedText
-in_order texts = given (texts.node ∷ texts.ele ∷ texts.face ∷ texts.edge ∷ texts.neigh ∷ texts.vtk ∷ texts.msh ∷ [])
+in_order texts = given (texts.node ∷ texts.ele ∷ texts.face ∷ texts.edge ∷ texts.neigh ∷ []) ++ texts.whole
 
 -- the files with each of these texts under its name, in order, and nothing else changed
 abbrev pub with_files : Option Files → List NamedText → Option Files

@@ -2,6 +2,7 @@
 //! statuses in which a run ends.
 #![tactic(auto)]
 
+mod format_files;
 mod input;
 mod mesh;
 mod meshed;
@@ -23,4 +24,4 @@ pub use outputs::{Outputs, outputs_of};
 pub use put::put_unwritten;
 pub use report::{Report, Summary, append_counted, text_of};
 pub use status::{LimitKind, Status};
-pub use store::{NamedText, StoreStop, Texts, store_all};
+pub use store::{NamedText, NamedTexts, StoreStop, Texts, store_all};

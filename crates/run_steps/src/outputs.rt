@@ -8,14 +8,16 @@ ghost use Rattle.incidence.specs.Uses.{AreUsesOf};
 ghost use Rattle.mesh_files.specs.FaceRows.{AreFaceRowsOf};
 ghost use Rattle.mesh_files.specs.Texts.{marked_corners, AreNamed};
 ghost use Rattle.node_files.specs.Writing.{IsNearGrid};
-ghost use Rattle.run_steps.specs.Outputs.{named, first_of, node_file, ele_file, face_file, edge_file, neigh_file, vtk_file, msh_file, report_of};
+ghost use Rattle.command_words.specs.Formats.{asks_whole};
+ghost use Rattle.run_steps.specs.Outputs.{named, first_of, node_file, ele_file, face_file, edge_file, neigh_file, mesh_format_files, report_of};
 ghost use Rattle.run_steps.specs.Outputs.{names_sides, asks_faces, asks_uses, asks_hull_alone, IsWritable};
 ghost use Rattle.run_steps.specs.Outputs.{is_second_order, IsHullOf, AreFaceFilesOf, AreFaceOutputsOf, AreSideOutputsOf, AreFirstOutputsOf, AreOutputsOf};
 
 use crate::meshed::{HulledMesh, Meshed};
 use crate::report::{Report, Summary};
 use crate::second_outputs::second_outputs;
-use crate::store::{NamedText, Texts};
+use crate::store::{NamedText, NamedTexts, Texts};
+use crate::format_files::first_format_files;
 use command_words::{Options, with_extension};
 use incidence::{Uses, pair_uses, uses_of};
 use mesh_files::{
@@ -23,7 +25,6 @@ use mesh_files::{
     write_edge, write_ele, write_face, write_neigh,
 };
 use node_files::write_node_from;
-use solver_files::{write_msh, write_vtk};
 use std::alloc::Global;
 use tet_ports::{Bytes, NoMemory};
 
@@ -47,8 +48,7 @@ struct RowOutputs {
 #[derive(Drop)]
 pub(crate) struct FaceFiles {
     pub(crate) face: Option<NamedText>,
-    pub(crate) vtk: Option<NamedText>,
-    pub(crate) msh: Option<NamedText>,
+    pub(crate) whole: NamedTexts,
 }
 
 /// The files that list faces, the neighbor file, where it is asked for, and the number of faces, if
@@ -128,22 +128,20 @@ fn put_together(
         face = faces.files.face;
         edge = sides.edge;
         neigh = faces.neigh;
-        vtk = faces.files.vtk;
-        msh = faces.files.msh;
+        whole = faces.files.whole;
       };
       report = report;
       tetrahedra = tetrahedra;
     } }
 {
-    let FaceFiles { face, vtk, msh } = faces.files;
+    let FaceFiles { face, whole } = faces.files;
     let texts = Texts {
         node: rows.node,
         ele: rows.ele,
         face,
         edge: sides.edge,
         neigh: faces.neigh,
-        vtk,
-        msh,
+        whole,
     };
     Outputs {
         texts,
@@ -184,18 +182,11 @@ fn names_sides(options: &Options) -> bool
     !options.quiet || (!options.no_face && options.edges)
 }
 
-/// Whether a file of the whole mesh is asked for.
-fn asks_whole(options: &Options) -> bool
-    ensures { result ≡ options.now.formats.vtk || options.now.formats.msh }
-{
-    options.formats.vtk || options.formats.msh
-}
-
 /// Whether a file with faces is asked for: the face file, or one of the whole mesh.
 fn asks_faces(options: &Options) -> bool
     ensures { result ≡ asks_faces options.now }
 {
-    !options.no_face || asks_whole(options)
+    !options.no_face || options.formats.asks_whole()
 }
 
 /// Whether the options ask for no faces but those on the hull and in facets.
@@ -263,8 +254,7 @@ fn used_face_files(
     requires uses { asks_uses options.now ≡ true → AreUsesOf mesh.now.tetrahedra uses }
     ensures { IfOk result (AreFaceFilesOf options.now mesh.now) }
 {
-    let formats = &options.formats;
-    if !options.no_face && options.all_faces && !formats.vtk && !formats.msh {
+    if !options.no_face && options.all_faces && !options.formats.asks_whole() {
         return all_face_file(alloc, options, mesh, uses);
     }
     let faces = wanted_face_rows(alloc, options, mesh, uses)?;
@@ -272,6 +262,7 @@ fn used_face_files(
 }
 
 /// The file of all faces with their markers, alone. The uses are freed.
+#[tactic(auto, using(crate::proofs::Asked::none_asked))]
 fn all_face_file(
     alloc: Global,
     options: &Options,
@@ -282,8 +273,7 @@ fn all_face_file(
     requires uses { AreUsesOf mesh.now.tetrahedra uses }
     requires written { options.now.no_face ≡ false }
     requires all { options.now.all_faces ≡ true }
-    requires no_vtk { options.now.formats.vtk ≡ false }
-    requires no_msh { options.now.formats.msh ≡ false }
+    requires alone { asks_whole options.now.formats ≡ false }
     ensures { IfOk result (AreFaceFilesOf options.now mesh.now) }
 {
     let list = mesh.marked_list();
@@ -292,8 +282,7 @@ fn all_face_file(
     let face = named(alloc, options, b".1.face", text)?;
     Ok(FaceFiles {
         face,
-        vtk: None,
-        msh: None,
+        whole: NamedTexts::new(alloc),
     })
 }
 
@@ -309,13 +298,12 @@ fn face_files(
     requires named { asks_faces options.now ≡ true
         → All (λ face. AreNamed mesh.now.names (marked_corners face)) faces.now }
     ensures face { IfOk result (λ files. files.face ≡ face_file options.now mesh.now faces.now) }
-    ensures vtk { IfOk result (λ files. files.vtk ≡ vtk_file options.now mesh.now faces.now) }
-    ensures msh { IfOk result (λ files. files.msh ≡ msh_file options.now mesh.now faces.now) }
+    ensures whole { IfOk result
+        (λ files. files.whole ≡ mesh_format_files options.now mesh.now faces.now) }
 {
     let face = face_file(alloc, options, mesh, faces)?;
-    let vtk = vtk_file(alloc, options, mesh, faces)?;
-    let msh = msh_file(alloc, options, mesh, faces)?;
-    Ok(FaceFiles { face, vtk, msh })
+    let whole = mesh_format_files(alloc, options, mesh, faces)?;
+    Ok(FaceFiles { face, whole })
 }
 
 /// The face outputs where only the faces on the hull are asked for, and these are known.
@@ -457,34 +445,24 @@ fn face_file(alloc: Global, options: &Options, mesh: &Meshed, marked: &FaceRows)
     named(alloc, options, b".1.face", text)
 }
 
-/// The `.vtk` file: the points, the tetrahedra with their regions, and faces with their markers.
-fn vtk_file(alloc: Global, options: &Options, mesh: &Meshed, faces: &FaceRows) -> FileAnswer
+/// The files of the whole mesh that are asked for, with these faces.
+fn mesh_format_files(
+    alloc: Global,
+    options: &Options,
+    mesh: &Meshed,
+    faces: &FaceRows,
+) -> Result<NamedTexts, NoMemory>
     requires mesh { IsWritable mesh.now }
     requires near { IsNearGrid options.now.origin mesh.now.table.grid }
     requires named { asks_faces options.now ≡ true
         → All (λ face. AreNamed mesh.now.names (marked_corners face)) faces.now }
-    ensures { IfOk result (λ file. file ≡ vtk_file options.now mesh.now faces.now) }
+    ensures { IfOk result
+        (λ files. files ≡ mesh_format_files options.now mesh.now faces.now) }
 {
-    if !options.formats.vtk {
-        return Ok(None);
+    if !options.formats.asks_whole() {
+        return Ok(NamedTexts::new(alloc));
     }
-    let text = write_vtk(alloc, &mesh.whole(options.origin, faces))?;
-    named(alloc, options, b".1.vtk", text)
-}
-
-/// The `.msh` file: the points, the tetrahedra with their regions, and faces with their markers.
-fn msh_file(alloc: Global, options: &Options, mesh: &Meshed, faces: &FaceRows) -> FileAnswer
-    requires mesh { IsWritable mesh.now }
-    requires near { IsNearGrid options.now.origin mesh.now.table.grid }
-    requires named { asks_faces options.now ≡ true
-        → All (λ face. AreNamed mesh.now.names (marked_corners face)) faces.now }
-    ensures { IfOk result (λ file. file ≡ msh_file options.now mesh.now faces.now) }
-{
-    if !options.formats.msh {
-        return Ok(None);
-    }
-    let text = write_msh(alloc, &mesh.whole(options.origin, faces))?;
-    named(alloc, options, b".1.msh", text)
+    first_format_files(alloc, options, &mesh.whole(options.origin, faces))
 }
 
 /// The edge file: the edges of all tetrahedra.

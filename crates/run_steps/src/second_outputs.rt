@@ -4,20 +4,16 @@ ghost use Rattle.std.specs.Prelude.{◌≡◌, ◌<◌, IfOk};
 ghost use Rattle.node_files.specs.Writing.{IsNearGrid};
 ghost use Rattle.solver_files.specs.Second.{second_of, IsSecond};
 ghost use Rattle.run_steps.specs.Outputs.{second_texts, AreSecondOutputsOf, IsWritable};
-ghost use Rattle.run_steps.specs.Outputs.{second_node_file, second_ele_file, second_face_file, second_vtk_file, second_msh_file};
+ghost use Rattle.run_steps.specs.Outputs.{second_node_file, second_ele_file, second_face_file};
 
 use crate::meshed::Meshed;
-use crate::outputs::{
-    FaceFiles, FileAnswer, Outputs, edge_file, first_of, named, neigh_file, report_of,
-};
+use crate::outputs::{FileAnswer, Outputs, edge_file, first_of, named, neigh_file, report_of};
 use crate::store::{NamedText, Texts};
+use crate::format_files::second_format_files;
 use command_words::Options;
 use incidence::uses_of;
 use mesh_files::{edges_of, face_count, used_faces};
-use solver_files::{
-    SecondMesh, write_second_ele, write_second_face, write_second_msh, write_second_node,
-    write_second_vtk,
-};
+use solver_files::{SecondMesh, write_second_ele, write_second_face, write_second_node};
 use std::alloc::Global;
 use tet_ports::NoMemory;
 
@@ -72,7 +68,8 @@ fn texts_of(
     ensures { IfOk result
         (λ texts. texts ≡ second_texts options.now first edge neigh (second_of mesh.now)) }
 {
-    let FaceFiles { face, vtk, msh } = face_files(alloc, options, first, mesh)?;
+    let whole = second_format_files(alloc, options, mesh)?;
+    let face = face_file(alloc, options, first, mesh)?;
     let node = node_file(alloc, options, first, mesh)?;
     let ele = ele_file(alloc, options, first, mesh)?;
     Ok(Texts {
@@ -81,30 +78,8 @@ fn texts_of(
         face,
         edge,
         neigh,
-        vtk,
-        msh,
+        whole,
     })
-}
-
-/// The files of second order that list faces.
-fn face_files(
-    alloc: Global,
-    options: &Options,
-    first: u32,
-    mesh: &SecondMesh<'_>,
-) -> Result<FaceFiles, NoMemory>
-    requires { IsSecond (second_of mesh.now) }
-    ensures face { IfOk result (λ files. files.face
-        ≡ second_face_file options.now first (second_of mesh.now)) }
-    ensures vtk { IfOk result (λ files. files.vtk
-        ≡ second_vtk_file options.now (second_of mesh.now)) }
-    ensures msh { IfOk result (λ files. files.msh
-        ≡ second_msh_file options.now (second_of mesh.now)) }
-{
-    let face = face_file(alloc, options, first, mesh)?;
-    let vtk = vtk_file(alloc, options, mesh)?;
-    let msh = msh_file(alloc, options, mesh)?;
-    Ok(FaceFiles { face, vtk, msh })
 }
 
 /// The points and the midpoints of edges.
@@ -144,28 +119,4 @@ fn face_file(alloc: Global, options: &Options, first: u32, mesh: &SecondMesh<'_>
     }
     let text = write_second_face(alloc, mesh, first)?;
     named(alloc, options, b".1.face", text)
-}
-
-/// The `.vtk` file of second order.
-fn vtk_file(alloc: Global, options: &Options, mesh: &SecondMesh<'_>) -> FileAnswer
-    requires { IsSecond (second_of mesh.now) }
-    ensures { IfOk result (λ file. file ≡ second_vtk_file options.now (second_of mesh.now)) }
-{
-    if !options.formats.vtk {
-        return Ok(None);
-    }
-    let text = write_second_vtk(alloc, mesh)?;
-    named(alloc, options, b".1.vtk", text)
-}
-
-/// The `.msh` file of second order.
-fn msh_file(alloc: Global, options: &Options, mesh: &SecondMesh<'_>) -> FileAnswer
-    requires { IsSecond (second_of mesh.now) }
-    ensures { IfOk result (λ file. file ≡ second_msh_file options.now (second_of mesh.now)) }
-{
-    if !options.formats.msh {
-        return Ok(None);
-    }
-    let text = write_second_msh(alloc, mesh)?;
-    named(alloc, options, b".1.msh", text)
 }

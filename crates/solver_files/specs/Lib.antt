@@ -1,3 +1,4 @@
+pub mod Formats
 pub mod Laws
 pub mod Mesh
 pub mod Msh

@@ -3,6 +3,7 @@
 #![tactic(auto)]
 
 mod attribute;
+mod format;
 mod laws;
 mod line;
 mod mesh;
@@ -17,6 +18,7 @@ mod second_rows;
 mod second_vtk;
 mod vtk;
 
+pub use format::{write_second_whole, write_whole};
 pub use laws::{law_msh_text, law_vtk_text};
 pub use mesh::WholeMesh;
 pub use msh::write_msh;

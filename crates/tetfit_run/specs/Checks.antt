@@ -61,7 +61,7 @@ check_base words = mesh_base (name_of words)
 -- outputs without files, with this report
 abbrev pub reported : Option Report → Outputs
 reported report = record {
-  texts = record { node = None; ele = None; face = None; edge = None; neigh = None; vtk = None; msh = None };
+  texts = record { node = None; ele = None; face = None; edge = None; neigh = None; whole = [] };
   report = report;
   tetrahedra = 0;
 }

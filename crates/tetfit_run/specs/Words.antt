@@ -16,17 +16,14 @@ use Rattle.command_words.specs.declared.fault.WordsFault.{WordsFault}
 use Rattle.command_words.specs.declared.fault.WordsFault.TheVariants.{Usage, NoMemory}
 use Rattle.command_words.specs.declared.options.Extension.{Extension}
 use Rattle.command_words.specs.declared.options.Extension.TheVariants.{Off, Stl}
-use Rattle.command_words.specs.declared.formats.Formats.{Formats}
+use Rattle.command_words.specs.Formats.{formats_of, is_format}
 use Rattle.command_words.specs.declared.options.Options.{Options}
 use Rattle.command_words.specs.Grammar.{words_fault_within}
-use Rattle.command_words.specs.Words.{is_cluster, name_of, within}
+use Rattle.command_words.specs.Words.{has_word, is_cluster, name_of, within}
 use Rattle.command_words.specs.Meaning.{options_within}
 use Rattle.command_words.specs.Names.{file_name, text_of}
 
 -- ---- words of their own: they ask for the page, for the version, for the stages to be said, and for a check
-
-abbrev pub has_word : List (List ℕ) → List ℕ → Bool
-has_word words wanted = list_any (λ word. bytes_eq word wanted) words
 
 -- no word at all asks for the page too
 abbrev pub asks_page : List (List ℕ) → Bool
@@ -165,18 +162,6 @@ fit_goal words =
       shape = fit_shape words;
       splits_boundary = not (list_any keeps_boundary words);
     }) else None
-
--- ---- words that ask for files of the whole mesh in other formats, or for second order
-
-abbrev pub is_format : List ℕ → Bool
-is_format word = bytes_eq word (codes "-k") || (bytes_eq word (codes "--msh") || bytes_eq word (codes "-o2"))
-
-abbrev pub formats_of : List (List ℕ) → Formats
-formats_of words = record {
-  vtk = has_word words (codes "-k");
-  msh = has_word words (codes "--msh");
-  second_order = has_word words (codes "-o2");
-}
 
 -- a word of this program alone that is not about the stages
 abbrev pub is_own : List ℕ → Bool

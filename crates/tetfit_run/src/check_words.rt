@@ -5,7 +5,8 @@ ghost use Rattle.command_words.specs.Words.{name_of};
 ghost use Rattle.tetfit_run.specs.Checks.{asks_quiet, check_base, check_fault, cut_end, goes_with_check, is_quiet, mesh_base};
 
 use crate::kinds::is_name;
-use crate::request::{is_check, is_word};
+use crate::request::is_check;
+use command_words::is_word;
 use tet_ports::Words;
 
 /// Whether the word asks for no summary.

@@ -10,13 +10,13 @@ use crate::check_words::{asks_quiet, check_base, check_fault};
 use crate::request::other_words;
 use far_meshes::check_far_files;
 use mesh_check::sound_line;
-use run_steps::{Outputs, Report, Status, Texts};
+use run_steps::{NamedTexts, Outputs, Report, Status, Texts};
 use std::alloc::Global;
 use tet_ports::{Folder, Name, NoMemory, Words};
 use tetgen_run::Stop;
 
 /// Outputs without files, with this report.
-pub(crate) fn reported(report: Option<Report>) -> Outputs
+pub(crate) fn reported(alloc: Global, report: Option<Report>) -> Outputs
     ensures { result ≡ reported report }
 {
     Outputs {
@@ -26,8 +26,7 @@ pub(crate) fn reported(report: Option<Report>) -> Outputs
             face: None,
             edge: None,
             neigh: None,
-            vtk: None,
-            msh: None,
+            whole: NamedTexts::new(alloc),
         },
         report,
         tetrahedra: 0,
@@ -40,10 +39,10 @@ fn checked_outputs(alloc: Global, quiet: bool, count: usize) -> Result<Outputs, 
     ensures { IfOk result (λ outputs. outputs ≡ checked_outputs quiet count) }
 {
     if quiet {
-        return Ok(reported(None));
+        return Ok(reported(alloc, None));
     }
     let line = sound_line(alloc, count)?;
-    Ok(reported(Some(Report::Text(line))))
+    Ok(reported(alloc, Some(Report::Text(line))))
 }
 
 /// Checks the mesh that words without `-V` name, as `check_far_files` does; its outputs are the

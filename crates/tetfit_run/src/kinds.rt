@@ -20,15 +20,6 @@ pub(crate) const VOLUME: &[u8] = b"-a";
 /// The front of the word that bounds the shape of tetrahedra.
 pub(crate) const SHAPE: &[u8] = b"-q";
 
-/// The word that asks for the `.vtk` file.
-pub(crate) const VTK: &[u8] = b"-k";
-
-/// The word that asks for the `.msh` file.
-pub(crate) const MSH: &[u8] = b"--msh";
-
-/// The word that asks for tetrahedra and faces of second order.
-pub(crate) const SECOND_ORDER: &[u8] = b"-o2";
-
 /// The word that asks that no points be added on segments and in facets.
 pub(crate) const BOUNDARY: &[u8] = b"-Y";
 

@@ -46,7 +46,7 @@ fn said(alloc: Global, text: &[u8]) -> Result<Outputs, NoMemory>
     ensures { IfOk result (λ outputs. outputs ≡ said text.now) }
 {
     let text = Bytes::from_slice(alloc, text)?;
-    Ok(reported(Some(Report::Text(text))))
+    Ok(reported(alloc, Some(Report::Text(text))))
 }
 
 /// The report of a mesh with the number of decimals in its summary, and with lines behind it.

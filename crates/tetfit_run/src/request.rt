@@ -1,13 +1,12 @@
 //! Reads the words of the command: a page, the version, a check, or the options of a mesh.
 
 ghost use Rattle.std.specs.Prelude.{◌≡◌, ◌+◌, ◌++◌, ◌<◌, ℕ, filter, length, Some, None, Err, IfOk, IfSome, OnOk, position};
-ghost use Rattle.std.specs.Str.{bytes_eq};
 ghost use Rattle.command_words.specs.Meaning.{AreInRange};
 ghost use Rattle.command_words.specs.declared.fault.WordsFault.TheVariants.{Usage};
-ghost use Rattle.tetfit_run.specs.Words.{request_of, asks_check, is_check, asks_limits, asks_page, asks_stages, asks_version, elsewhere_in, first_elsewhere, formats_of, has_word, asks_elsewhere, is_bounding, is_format, is_letter_elsewhere, is_of_goal, is_own, is_plain, is_shape, is_volume, keeps_boundary, named_fault, others, plain_fault, plain_options, plain_words, told_fault, IsPlainRequest};
+ghost use Rattle.tetfit_run.specs.Words.{request_of, asks_check, is_check, asks_limits, asks_page, asks_stages, asks_version, elsewhere_in, first_elsewhere, asks_elsewhere, is_bounding, is_letter_elsewhere, is_of_goal, is_own, is_plain, is_shape, is_volume, keeps_boundary, named_fault, others, plain_fault, plain_options, plain_words, told_fault, IsPlainRequest};
 
-use crate::kinds::{BOUNDARY, DECIMALS, MSH, SAMPLE, SECOND_ORDER, SHAPE, VOLUME, VTK, is_cluster};
-use command_words::{Formats, Options, WordsFault, read_words_within};
+use crate::kinds::{BOUNDARY, DECIMALS, SAMPLE, SHAPE, VOLUME, is_cluster};
+use command_words::{Options, WordsFault, has_word, is_format, is_word, read_words_within};
 use std::alloc::Global;
 use tet_ports::{Name, NoMemory, Words};
 
@@ -25,21 +24,6 @@ pub enum Request {
     Check,
     /// A mesh, as the words without `-V` say (`other_words`).
     Mesh,
-}
-
-pub(crate) fn is_word(word: &[u8], wanted: &[u8]) -> bool
-    ensures { result ≡ bytes_eq word.now wanted.now }
-{
-    word == wanted
-}
-
-fn has_word(words: &Words, wanted: &[u8]) -> bool
-    ensures { result ≡ has_word words.now wanted.now }
-{
-    words
-        .as_slice()
-        .iter()
-        .any(|word| is_word(word.as_slice(), wanted))
 }
 
 fn asks_page(words: &Words) -> bool
@@ -129,30 +113,11 @@ fn is_of_goal(word: &[u8]) -> bool
     is_bounding(word) || keeps_boundary(word)
 }
 
-/// Whether the word asks for a file of the whole mesh in another format, or for second order.
-fn is_format(word: &[u8]) -> bool
-    ensures { result ≡ is_format word.now }
-{
-    is_word(word, VTK) || (is_word(word, MSH) || is_word(word, SECOND_ORDER))
-}
-
 /// Whether the word is of this program alone, and not about the stages.
 fn is_own(word: &[u8]) -> bool
     ensures { result ≡ is_own word.now }
 {
     is_of_goal(word) || is_format(word)
-}
-
-/// The files of the whole mesh that the words ask for: `-k` for the `.vtk` file, and `--msh` for
-/// the `.msh` file; and whether they ask, by `-o2`, for tetrahedra and faces of second order.
-pub(crate) fn formats_of(words: &Words) -> Formats
-    ensures { result ≡ formats_of words.now }
-{
-    Formats {
-        vtk: has_word(words, VTK),
-        msh: has_word(words, MSH),
-        second_order: has_word(words, SECOND_ORDER),
-    }
 }
 
 /// Whether the word is of the grammar of the program that meshes exact texts.

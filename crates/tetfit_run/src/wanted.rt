@@ -9,8 +9,8 @@ ghost use Rattle.tetfit_run.specs.Words.{fit_fault, fit_wanted, halvings_for, pl
 use crate::check_words::name_of;
 use crate::goal::{asks_region_limits, bad_bound, fit_goal, goal_fault};
 use crate::names::all_in_small;
-use crate::request::{MOST_HALVINGS, formats_of, plain_words, read_options};
-use command_words::{Options, WordsFault};
+use crate::request::{MOST_HALVINGS, plain_words, read_options};
+use command_words::{Options, WordsFault, formats_of};
 use refining::Goal;
 use std::alloc::Global;
 use tet_ports::{Name, Words};

@@ -136,6 +136,11 @@ pub store_finishes : (outputs : Outputs) (folder : FolderSeen) (out : SinkSeen) 
 store_finishes outputs folder out (Failed text) left rose w = (left, w, rose)
 store_finishes outputs folder out StoreWanting left rose w = (w, left)
 
+-- where nothing is stored for want of memory
+pub unstored_finishes : (outputs : Outputs) (folder : FolderSeen) (out : SinkSeen) → folder.files_now ≡ folder.files_before → out.written_now ≡ out.written_before
+    → FinishesSo outputs folder out (Err Wanting)
+unstored_finishes outputs folder out f w = (w, record { stored = []; left = in_order outputs.texts; texts_are = refl; now_is = f })
+
 -- where all is stored
 pub summed_finishes : (outputs : Outputs) (folder : FolderSeen) (out : SinkSeen) (result : Result (Unit {0}) Stop) → folder.files_now ≡ with_files folder.files_before (in_order outputs.texts)
     → IsSummed (text_in outputs) out result → FinishesSo outputs folder out result

@@ -33,8 +33,7 @@ returns c =
       faces = [];
       faces_are = λ loud. absurd (true≢false (sym asked.0 ∙ loud));
       face_is = c.in_ok-files.ensures.face;
-      vtk_is = c.in_ok-files.ensures.vtk;
-      msh_is = c.in_ok-files.ensures.msh;
+      whole_is = c.in_ok-files.ensures.whole;
       neigh_is = rw asked.2 refl;
       count_is = refl;
     }

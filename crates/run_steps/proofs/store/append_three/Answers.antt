@@ -5,7 +5,7 @@ use Rattle.run_steps.proofs.store.append_three.Goals as goal
 
 pub returns : goal.returns
 returns c =
-    let all = c.append-3.new.list.items in
+    let all = c.append-3.new.self in
     let one = c.args.one in
     let two = c.args.two in
     let three = c.args.three in

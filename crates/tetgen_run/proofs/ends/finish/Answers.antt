@@ -3,8 +3,15 @@ use Rattle.std.proofs.lemmas.Result.{err_from_is_err_and}
 use Rattle.tet_ports.specs.Seen.{FolderSeen, SinkSeen, folder_seen, sink_seen}
 use Rattle.run_steps.specs.Stores.{AreLeft, with_files}
 use Rattle.tetgen_run.specs.Ends.{IsSummed}
-use Rattle.tetgen_run.proofs.Endings.{store_finishes, summed_finishes}
+use Rattle.tetgen_run.proofs.Endings.{store_finishes, summed_finishes, unstored_finishes}
 use Rattle.tetgen_run.proofs.ends.finish.Goals as goal
+
+pub returns-in_err-text-clause-finish : goal.returns-in_err-text-clause-finish
+returns-in_err-text-clause-finish g c =
+    let folder : FolderSeen = folder_seen g.F.Folder.state c.args.folder.now c.args.folder.now in
+    let out : SinkSeen = sink_seen g.O.Sink.state c.args.out.now c.args.out.now in
+    let p = err_from_is_err_and c.from_residual.result c.from_residual.ensures.1 in
+    rw (p.1, p.2) (unstored_finishes c.args.outputs folder out refl refl)
 
 pub returns-in_err-store_all-clause-finish : goal.returns-in_err-store_all-clause-finish
 returns-in_err-store_all-clause-finish g c =
