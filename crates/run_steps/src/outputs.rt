@@ -13,11 +13,11 @@ ghost use Rattle.run_steps.specs.Outputs.{named, first_of, node_file, ele_file, 
 ghost use Rattle.run_steps.specs.Outputs.{names_sides, asks_faces, asks_uses, asks_hull_alone, IsWritable};
 ghost use Rattle.run_steps.specs.Outputs.{is_second_order, IsHullOf, AreFaceFilesOf, AreFaceOutputsOf, AreSideOutputsOf, AreFirstOutputsOf, AreOutputsOf};
 
+use crate::format_files::first_format_files;
 use crate::meshed::{HulledMesh, Meshed};
 use crate::report::{Report, Summary};
 use crate::second_outputs::second_outputs;
 use crate::store::{NamedText, NamedTexts, Texts};
-use crate::format_files::first_format_files;
 use command_words::{Options, with_extension};
 use incidence::{Uses, pair_uses, uses_of};
 use mesh_files::{

@@ -6,10 +6,10 @@ ghost use Rattle.solver_files.specs.Second.{second_of, IsSecond};
 ghost use Rattle.run_steps.specs.Outputs.{second_texts, AreSecondOutputsOf, IsWritable};
 ghost use Rattle.run_steps.specs.Outputs.{second_node_file, second_ele_file, second_face_file};
 
+use crate::format_files::second_format_files;
 use crate::meshed::Meshed;
 use crate::outputs::{FileAnswer, Outputs, edge_file, first_of, named, neigh_file, report_of};
 use crate::store::{NamedText, Texts};
-use crate::format_files::second_format_files;
 use command_words::Options;
 use incidence::uses_of;
 use mesh_files::{edges_of, face_count, used_faces};

@@ -14,11 +14,7 @@ use std::alloc::Global;
 use tet_ports::{Bytes, NoMemory};
 
 /// The text of a file of this format with the mesh. The only refusal is out of memory.
-pub fn write_whole(
-    alloc: Global,
-    format: Format,
-    mesh: &WholeMesh<'_>,
-) -> Result<Bytes, NoMemory>
+pub fn write_whole(alloc: Global, format: Format, mesh: &WholeMesh<'_>) -> Result<Bytes, NoMemory>
     requires { IsWritten (mesh_of mesh.now) }
     ensures { IfOk result (λ text. text ≡ whole_text (mesh_of mesh.now) format) }
 {

@@ -25,7 +25,7 @@ use Rattle.refining.specs.declared.goal.Goal.{Goal}
 use Rattle.tetgen_run.proofs.Endings.{answers_same_by}
 use Rattle.tetgen_run.specs.Ends.{AnswersBy}
 use Rattle.tetfit_run.proofs.CheckedRuns.{check_same}
-use Rattle.tetfit_run.specs.Outputs.{FitWordsAnswer, IsConformedBy, IsFitUsage, IsFittedTo, IsMeshedTo, IsOffSomeGrid, MadeBy, OutputsOfFit, OutputsOfModel, Says, fit_limits, wanted_from}
+use Rattle.tetfit_run.specs.Outputs.{FitWordsAnswer, IsConformedAt, IsConformedBy, IsFitUsage, IsFittedTo, IsMeshedTo, MadeBy, OutputsOfFit, OutputsOfModel, Says, fit_limits, wanted_from}
 use Rattle.tetfit_run.specs.Run.{IsFitAnswer, IsFitComplete, MayConform, meshed_answer}
 
 -- ---- the words
@@ -161,9 +161,9 @@ made_same Mesh told words seen h =
 
 -- ---- points on the segments
 
-bounds_of : (goal : Option Goal) (options : Options) (input : Input) (n : ℕ) (final : Outputs) → IsConformedBy goal options input n final → (g : Goal) × (goal ≡ Some g) × IsOffSomeGrid options input
+bounds_of : (goal : Option Goal) (options : Options) (input : Input) (n : ℕ) (final : Outputs) → IsConformedBy goal options input n final → (g : Goal) × (goal ≡ Some g) × IsConformedAt g options input n final
 bounds_of None options input n final h = absurd h
-bounds_of (Some g) options input n final h = (g, refl, h.off_grid)
+bounds_of (Some g) options input n final h = (g, refl, h)
 
 module _ (words : List (List ℕ)) (seen : FolderSeen) (asked : request_of words ≡ Mesh) where
   fitted_bare : (wanted : Wanted) (input : Input) (outputs : Outputs) → FitWordsAnswer (others words) (Ok wanted) → ModelAnswer fit_limits seen wanted.name wanted.options (Ok input)
@@ -178,7 +178,10 @@ module _ (words : List (List ℕ)) (seen : FolderSeen) (asked : request_of words
         bounded = g.1;
         input = input;
         read = subst (λ (q : Wanted). ModelAnswer fit_limits seen q.name q.options (Ok input)) w.1 read;
-        off_grid = g.2;
+        decimals = g.2.decimals;
+        status = g.2.status;
+        refused = g.2.fitted;
+        off_grid = g.2.off_grid;
       })
 
   model_bare : (r : Result Outputs Status) → OutputsOfModel (others words) seen r → BareModel (others words) seen r ⊎ MayConform words seen

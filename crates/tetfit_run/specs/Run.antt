@@ -46,18 +46,22 @@ abbrev pub meshed_answer : Status → Status
 meshed_answer Empty = Done
 meshed_answer status = status
 
--- The words ask for a mesh with bounded tetrahedra, and at some number of decimals the grid refuses the model that they name
+-- The words ask for a mesh with bounded tetrahedra, and the model that they name is refused without further points, and at some number
+-- of decimals by the grid
 pub record MayConform (words : List (List ℕ)) (folder : FolderSeen) : Type 0 where
   pub asked : request_of words ≡ Mesh
   pub goal : Goal
   pub bounded : fit_goal (others words) ≡ Some goal
   pub input : Input
   pub read : ModelAnswer fit_limits folder (fit_name (others words)) (fit_options (others words)) (Ok input)
+  pub decimals : ℕ
+  pub status : Status
+  pub refused : IsFitted fit_limits (with_origin input (fit_options (others words))) input decimals (Err status)
   pub off_grid : IsOffSomeGrid (with_origin input (fit_options (others words))) input
 
 -- Where contracts see the files, nothing failed and memory did not run out, each answer that has a cause is the answer,
--- except where two facets cross one tetrahedron, as in a run of `tetgen`, and where added points may help a model that the grid
--- refuses. Whether a mesh is empty is told by its cause
+-- except where two facets cross one tetrahedron, as in a run of `tetgen`, and where added points may help a model that is refused
+-- without them. Whether a mesh is empty is told by its cause
 abbrev pub IsFitComplete : List (List ℕ) → FolderSeen → SinkSeen → Status → Type 0
 IsFitComplete words folder out status =
     (told : Files) → folder.files_before ≡ Some told → HasNoFault folder out → status ≢ NoMemory
@@ -105,8 +109,8 @@ pub record IsMeshOfModel (words : List (List ℕ)) (folder : FolderSeen) (output
   pub outputs_are : outputs ≡ outputs_at final_decimals more final
 
 -- The outputs are those of one mesh of the model that the words name, with points behind those of the model, where tetrahedra are
--- bounded: the model is refused without them, at some number of decimals for the grid. The mesh has a tetrahedron, and lines are as
--- behind other meshes
+-- bounded: the model is refused without them, and at some number of decimals by the grid. The mesh has a tetrahedron, and behind
+-- the summary stands the line on rounding, as behind that of another mesh
 pub record IsConformedModel (goal : Goal) (words : List (List ℕ)) (folder : FolderSeen) (outputs : Outputs) : Type 0 where
   pub origin : Option WholePoint
   pub input : Input
