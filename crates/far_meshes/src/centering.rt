@@ -48,8 +48,11 @@ fn placed(alloc: Global, points: &DecimalPoints) -> Result<Points, CheckFault>
     }
 }
 
-/// The points measured from the middle of their box, on their least grid.
-pub(crate) fn centered_points(alloc: Global, points: &DecimalPoints) -> Result<Points, CheckFault>
+/// The points measured from the middle of their box, exactly, on their least grid. It refuses with
+/// the first in this order: a coordinate that has over 36 digits less that of the middle, with
+/// `OffGrid`; over 120,000 points; a coordinate over 2^29 units of the least grid, with `OffGrid`;
+/// or when out of memory.
+pub fn centered_points(alloc: Global, points: &DecimalPoints) -> Result<Points, CheckFault>
     ensures answer { AndThen (CenteredAnswer points.now) PlacedAnswer result }
     ensures count { IfOk result (λ list. length list ≡ length points.now) }
 {

@@ -7,6 +7,6 @@ mod checking;
 mod laws;
 mod moving;
 
-pub use centering::moved_points;
+pub use centering::{centered_points, moved_points};
 pub use checking::check_far_files;
 pub use laws::law_moved;

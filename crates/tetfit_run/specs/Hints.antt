@@ -12,6 +12,7 @@ use Rattle.geo_laws.specs.declared.complex.Piece.{Piece}
 use Rattle.grid_coords.specs.Choice.{is_over, most_decimals}
 use Rattle.grid_coords.specs.declared.points.DecimalPoint.{DecimalPoint}
 use Rattle.grid_coords.specs.declared.origin.WholePoint.{WholePoint}
+use Rattle.tetfit_run.specs.Apart.{file_point, TellsHelp}
 use Rattle.tetfit_run.specs.Grids.{point_at}
 use Rattle.node_files.specs.declared.limits.Limits.{Limits}
 use Rattle.run_steps.specs.declared.input.Input.{Input}
@@ -36,8 +37,7 @@ unfoldable pub at_text : DecimalPoint → List ℕ
 at_text p = codes " (" ++ decimal_text p.x ++ codes " " ++ decimal_text p.y ++ codes " " ++ decimal_text p.z ++ codes ")"
 
 abbrev pub place_text : List DecimalPoint → Numbering → ℕ → List ℕ
-place_text points by n =
-    if nat_lt n (length by.names) then option_map_or at_text (slice_get (drop (slice_index by.names n) points) 0) [] else []
+place_text points by n = option_map_or at_text (file_point points by n) []
 
 -- the number of a point and its coordinates
 abbrev pub corner_text : List DecimalPoint → Numbering → ℕ → List ℕ
@@ -174,13 +174,18 @@ TellsRounded limits options input by piece lines =
 abbrev pub parts_text : Options → List DecimalPoint → Numbering → Part → Part → List ℕ
 parts_text options points by one two = part_line points by one ++ part_line points by two ++ rounding_text options points
 
+-- the lines of two segments, with what would help
+abbrev pub TellsSegments : Options → List DecimalPoint → Numbering → Piece → Piece → List ℕ → Type 0
+TellsSegments options points by one two lines =
+    (help : List ℕ) × TellsHelp points by one two help
+    × (lines ≡ parts_text options points by (SegmentPart one) (SegmentPart two) ++ help)
+
 -- the lines that follow the message on an input with these options, refused with the status, its points numbered by
 -- `by`
 abbrev pub IsHintBy : Limits → Options → Input → Numbering → Status → List ℕ → Type 0
 IsHintBy limits options input by Flat lines = lines ≡ flat_text options input.nodes.decimals
 IsHintBy limits options input by (NotFlat facet four) lines = lines ≡ rounding_text options input.nodes.decimals
-IsHintBy limits options input by (SegmentsCross one two) lines =
-    lines ≡ parts_text options input.nodes.decimals by (SegmentPart one) (SegmentPart two)
+IsHintBy limits options input by (SegmentsCross one two) lines = TellsSegments options input.nodes.decimals by one two lines
 IsHintBy limits options input by (Crossing one two) lines = lines ≡ parts_text options input.nodes.decimals by one two
 IsHintBy limits options input by (GridEnd piece) lines = TellsRounded limits options input by piece lines
 IsHintBy limits options input by (BudgetEnd made piece) lines = TellsSegment limits options input by piece lines

@@ -1,3 +1,4 @@
+pub mod Apart
 pub mod Checks
 pub mod Messages
 pub mod Outputs

@@ -26,13 +26,12 @@ help_of_budget made =
     if nat_lt made 100000 then codes "tetfit: allow more added points by -S\n" else
     codes "tetfit: cut the model in parts\n"
 
--- one more line, on what would help; empty where nothing is known to
+-- one more line, on what would help; empty where nothing is known to, or where the lines before it say it
 abbrev pub help_of : Status → List ℕ
 help_of (Missing name) = codes "tetfit: the file of a model is .node, .poly, .smesh, .off or .stl: give its name whole\n"
 help_of (Limit what) = help_of_limit what
 help_of Flat = codes "tetfit: four points that are not in one plane are wanted\n"
 help_of (NotFlat facet four) = codes "tetfit: cut the facet in triangles\n"
-help_of (SegmentsCross one two) = codes "tetfit: give both segments the point at which they cross\n"
 help_of (Crossing one two) = codes "tetfit: give both parts the points in which they meet, or drop one of equal ones\n"
 help_of (GridEnd piece) = codes "tetfit: move apart what is near the segment, or turn sharp corners wider\n"
 help_of (BudgetEnd made piece) = help_of_budget made

@@ -9,10 +9,11 @@ ghost use Rattle.tetfit_run.specs.Hints.{hinted_facet_text, first_facet, grid_hi
 ghost use Rattle.tetfit_run.specs.Hints.{flat_line, flat_text, half_unit, moved_line, moved_text};
 ghost use Rattle.tetfit_run.specs.Hints.{rounded_line, rounded_text, rounding_text};
 ghost use Rattle.tetfit_run.specs.Hints.{segment_line, HasPoints, IsHint, IsHintBy, IsLineOf};
-ghost use Rattle.tetfit_run.specs.Hints.{IsMissing, TellsRounded, TellsSegment};
+ghost use Rattle.tetfit_run.specs.Hints.{IsMissing, TellsRounded, TellsSegment, TellsSegments};
 ghost use Rattle.tetfit_run.specs.Trial.{AreInTriedRange};
 ghost use Rattle.tetfit_run.specs.Trying.{at_decimals, IsNumbered, IsNumberedAt};
 
+use crate::apart::{are_apart, crossing_help};
 use crate::copies::{at_decimals, tried_nodes};
 use crate::facets::first_facet;
 use crate::fitting::Refused;
@@ -247,6 +248,24 @@ fn parts_hint(
     Ok(text)
 }
 
+/// The lines of two crossing segments, and what would help them.
+fn segments_hint(
+    alloc: Global,
+    trial: &Trial,
+    by: &Numbering,
+    one: Piece,
+    two: Piece,
+) -> Result<Bytes, NoMemory>
+    ensures { IfOk result (TellsSegments trial.now.options trial.now.input.nodes.decimals
+        by.now one two) }
+{
+    let points = trial.input.nodes.decimals.as_slice();
+    let apart = are_apart(alloc, points, by, one, two)?;
+    let mut text = parts_hint(alloc, trial, by, Part::Segment(one), Part::Segment(two))?;
+    text.append(crossing_help(apart))?;
+    Ok(text)
+}
+
 /// The lines that follow the message on an input whose points have these numbers.
 fn hint_by(alloc: Global, trial: &Trial, by: &Numbering, status: &Status) -> Result<Bytes, NoMemory>
     requires few { trial.now.options.budget ≤ 100000 }
@@ -258,9 +277,7 @@ fn hint_by(alloc: Global, trial: &Trial, by: &Numbering, status: &Status) -> Res
     match status {
         Status::Flat => flat_hint(alloc, trial),
         Status::NotFlat { facet: _, four: _ } => rounding_hint(alloc, trial),
-        Status::SegmentsCross { one, two } => {
-            parts_hint(alloc, trial, by, Part::Segment(*one), Part::Segment(*two))
-        }
+        Status::SegmentsCross { one, two } => segments_hint(alloc, trial, by, *one, *two),
         Status::Crossing { one, two } => parts_hint(alloc, trial, by, *one, *two),
         Status::GridEnd { piece } => rounded_segment_hint(alloc, trial, by, *piece),
         Status::BudgetEnd { made: _, piece } => segment_hint(alloc, trial, by, *piece),
@@ -293,7 +310,8 @@ fn grid_hint(
 }
 
 /// The lines that follow the message on a refused model: the segment of the input on which a
-/// missing subsegment lies; the coordinates of the crossing parts; that points lie in one plane; or
+/// missing subsegment lies; the coordinates of the crossing
+/// parts, and whether two segments cross in the file; that points lie in one plane; or
 /// the place and the coordinates of the first point off the grid. Where points lie in one plane, a
 /// facet is not flat, parts cross or the grid is too coarse for a subsegment, and the file has more
 /// decimals than are tried, they end with both numbers. The segment is found by meshing again with

@@ -3,6 +3,7 @@
 //! over a folder and two streams.
 #![tactic(auto)]
 
+mod apart;
 mod check_words;
 mod checks;
 mod conforming;

@@ -52,7 +52,8 @@ fn help_of_budget(made: u32) -> &'static [u8]
     }
 }
 
-/// One more line, on what would help; empty where nothing is known to.
+/// One more line, on what would help; empty where nothing is known to, or where the lines before it
+/// say it.
 fn help_of(status: &Status) -> &'static [u8]
     ensures { result.now ≡ help_of status.now }
 {
@@ -63,9 +64,6 @@ fn help_of(status: &Status) -> &'static [u8]
         Status::Limit { what } => help_of_limit(what),
         Status::Flat => b"tetfit: four points that are not in one plane are wanted\n",
         Status::NotFlat { facet: _, four: _ } => b"tetfit: cut the facet in triangles\n",
-        Status::SegmentsCross { one: _, two: _ } => {
-            b"tetfit: give both segments the point at which they cross\n"
-        }
         Status::Crossing { one: _, two: _ } => {
             b"tetfit: give both parts the points in which they meet, or drop one of equal ones\n"
         }

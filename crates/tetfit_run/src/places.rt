@@ -2,6 +2,7 @@
 
 ghost use Rattle.std.specs.Prelude.{◌≡◌, ◌++◌, [], drop, slice_get, option_copied, OnOk, IfOk};
 ghost use Rattle.std.specs.Option.{option_map_or};
+ghost use Rattle.tetfit_run.specs.Apart.{file_point};
 ghost use Rattle.tetfit_run.specs.Hints.{at_line, at_text, corner_text, corners_text, front_of, front_text, has_text, number_text};
 ghost use Rattle.tetfit_run.specs.Hints.{off_grid_lines, part_line, place_text, point_line, refusal_line};
 
@@ -62,6 +63,22 @@ fn found_at(points: &[DecimalPoint], place: usize) -> Option<&DecimalPoint>
     }
 }
 
+/// A point as the file has it, by its number on the grid; None for an added point.
+pub(crate) fn file_point<'a>(
+    points: &'a [DecimalPoint],
+    by: &Numbering,
+    point: u32,
+) -> Option<&'a DecimalPoint>
+    ensures { option_copied result ≡ file_point points.now by.now point }
+{
+    let place = point as usize;
+    if place < by.names.len() {
+        found_at(points, by.names.at(place) as usize)
+    } else {
+        None
+    }
+}
+
 /// Appends the coordinates of a point of the file; nothing of an added one.
 fn append_place(
     text: &mut Bytes,
@@ -71,12 +88,7 @@ fn append_place(
 ) -> Result<(), NoMemory>
     ensures { OnOk result (text.new ≡ text.old ++ place_text points.now by.now point) }
 {
-    let place = point as usize;
-    if place < by.names.len() {
-        let found = found_at(points, by.names.at(place) as usize);
-        append_found(text, found)?;
-    }
-    Ok(())
+    append_found(text, file_point(points, by, point))
 }
 
 /// Appends the number of a point and its coordinates.

@@ -79,6 +79,11 @@ const CROSSED_FINE: &[u8] = b"\
 5 3 0 0\n1 0 0 0\n2 2.5 2.5 0\n3 0 2 0\n4 2 0 0\n5 0 0 3.000000001\n\
 2 0\n1\n2 1 2\n1\n2 3 4\n0\n0\n";
 
+/// Two segments that are 4e-9 apart.
+const GRAZED: &[u8] = b"\
+5 3 0 0\n1 0 0 0\n2 0.25 0.25 0\n3 0 0.2 0.000000004\n4 0.2 0 0.000000004\n\
+5 0 0 3.000000001\n2 0\n1\n2 1 2\n1\n2 3 4\n0\n0\n";
+
 /// Four points that lie in one plane once they are rounded to 35 decimals.
 const FLATTENED: &[u8] = b"4 3 0 0\n1 0 0 0\n2 1e-30 0 0\n3 0 1e-30 0\n4 0 0 1e-36\n";
 
@@ -140,13 +145,20 @@ tetfit: points 3 (0 2 0) 4 (2 0 0)\n\
 tetfit: coordinates were rounded to 8 decimals, of 9 that the file has\n\
 tetfit: give both segments the point at which they cross\n";
 
+const GRAZED_TOLD: &[u8] = b"\
+tetfit: segments 1 2 and 3 4 cross\n\
+tetfit: points 1 (0 0 0) 2 (0.25 0.25 0)\n\
+tetfit: points 3 (0 0.2 0.000000004) 4 (0.2 0 0.000000004)\n\
+tetfit: coordinates were rounded to 8 decimals, of 9 that the file has\n\
+tetfit: they do not cross in the file, rounding made them: move them further apart\n";
+
 const FLATTENED_TOLD: &[u8] = b"\
 tetfit: all points lie in one plane\n\
 tetfit: coordinates were rounded to 35 decimals, of 36 that the file has\n\
 tetfit: four points that are not in one plane are wanted\n";
 
 /// The message on a model beside the status.
-static TOLD: [Run<'static>; 12] = [
+static TOLD: [Run<'static>; 13] = [
     Run {
         name: "off each grid",
         held: &[(b"t.node", &[FAR])],
@@ -222,6 +234,13 @@ static TOLD: [Run<'static>; 12] = [
         held: &[(b"x.poly", &[CROSSED_FINE])],
         words: &[b"x.poly"],
         end: Refused(6, CROSSED_FINE_TOLD),
+        files: &[],
+    },
+    Run {
+        name: "segments that cross by rounding alone",
+        held: &[(b"g.poly", &[GRAZED])],
+        words: &[b"g.poly"],
+        end: Refused(6, GRAZED_TOLD),
         files: &[],
     },
     Run {

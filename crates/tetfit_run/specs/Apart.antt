@@ -1,0 +1,57 @@
+-- Segments that cross once coordinates are rounded, and do not cross in the file.
+use Rattle.std.specs.Prelude.{◌≡◌, ℕ, ◌==◌, nat_lt, Bool, true, false, length, drop, slice_get, slice_index, List, [], ◌∷◌, ◌++◌, codes, Option, Some, None, Ok, if◌then◌else◌}
+use Rattle.sign_predicates.specs.Point.{Point}
+use Rattle.geo_laws.specs.Simplex.{ProperlyMet}
+use Rattle.geo_laws.specs.declared.complex.Piece.{Piece}
+use Rattle.grid_coords.specs.declared.points.DecimalPoint.{DecimalPoint}
+use Rattle.mesh_check.specs.Steps.{AndThen}
+use Rattle.far_meshes.specs.Centering.{CenteredAnswer, PlacedAnswer}
+use Rattle.run_steps.specs.declared.numbering.Numbering.{Numbering}
+
+-- a point as the file has it, by its number on the grid; None for an added point
+abbrev pub file_point : List DecimalPoint → Numbering → ℕ → Option DecimalPoint
+file_point points by n = if nat_lt n (length by.names) then slice_get (drop (slice_index by.names n) points) 0 else None
+
+-- the ends of two segments are points of the file, which has them so
+pub record AreEndsInFile (points : List DecimalPoint) (by : Numbering) (one two : Piece) (ends : List DecimalPoint) : Type 0 where
+  pub a : DecimalPoint
+  pub b : DecimalPoint
+  pub c : DecimalPoint
+  pub d : DecimalPoint
+  pub a_is : file_point points by one.a ≡ Some a
+  pub b_is : file_point points by one.b ≡ Some b
+  pub c_is : file_point points by two.a ≡ Some c
+  pub d_is : file_point points by two.b ≡ Some d
+  pub ends_are : ends ≡ a ∷ b ∷ c ∷ d ∷ []
+
+-- the place of an end of the second segment: that of the same end of the first, or else its own
+abbrev pub end_place : Piece → ℕ → ℕ → ℕ
+end_place one n own = if n == one.a then 0 else if n == one.b then 1 else own
+
+-- two segments whose ends are placed so have no common point but a common end
+abbrev pub AreSegmentsMet : Piece → Piece → List Point → Type 0
+AreSegmentsMet one two placed =
+    ProperlyMet placed (0 ∷ 1 ∷ []) (end_place one two.a 2 ∷ end_place one two.b 3 ∷ [])
+
+-- the four points have exactly these places on their least grid, measured from the middle of their box
+abbrev pub ArePlaced : List DecimalPoint → List Point → Type 0
+ArePlaced ends placed = AndThen (CenteredAnswer ends) PlacedAnswer (Ok placed)
+
+-- the two segments do not cross in the file
+pub record AreApart (points : List DecimalPoint) (by : Numbering) (one two : Piece) : Type 0 where
+  pub ends : List DecimalPoint
+  pub in_file : AreEndsInFile points by one two ends
+  pub placed : List Point
+  pub on_grid : ArePlaced ends placed
+  pub met : AreSegmentsMet one two placed
+
+-- what would help: where they are apart in the file, and where they are not known to be
+abbrev pub crossing_help : Bool → List ℕ
+crossing_help true = codes "tetfit: they do not cross in the file, rounding made them: move them further apart\n"
+crossing_help false = codes "tetfit: give both segments the point at which they cross\n"
+
+-- the line on what would help two segments that cross once coordinates are rounded
+pub record TellsHelp (points : List DecimalPoint) (by : Numbering) (one two : Piece) (line : List ℕ) : Type 0 where
+  pub apart : Bool
+  pub is : apart ≡ true → AreApart points by one two
+  pub told : line ≡ crossing_help apart
