@@ -4,10 +4,12 @@ use Rattle.std.specs.Prelude.{Bool, IsTrue, All, IfOk, IfErr}
 use Rattle.command_words.specs.declared.fault.WordsFault.{WordsFault}
 use Rattle.command_words.specs.declared.fault.WordsFault.TheVariants.{Usage as Misunderstood, NoMemory as WordsWanting}
 use Rattle.command_words.specs.declared.options.Options.{Options}
+use Rattle.tetfit_run.proofs.Keywords.{made_told}
 use Rattle.tetfit_run.proofs.Models.{model_has, model_wider}
+use Rattle.tetfit_run.specs.Keyword.{TellsBadText}
 use Rattle.tetgen_run.proofs.OnGrid.{made_on_grid}
 use Rattle.tetfit_run.specs.Hints.{IsHint, IsHintBy, moved_text}
-use Rattle.tetfit_run.specs.Models.{IsStatedBy, ModelAnswer}
+use Rattle.tetfit_run.specs.Models.{IsStatedBy, ModelAnswer, named_surface}
 use Rattle.tetfit_run.specs.declared.model.Model.{Model}
 use Rattle.tetfit_run.specs.Opening.{is_empty}
 use Rattle.tetfit_run.specs.Trying.{IsFitted, IsNumbered, IsRefused, at_decimals, is_of_grid}
@@ -28,7 +30,7 @@ use Rattle.run_steps.specs.declared.numbering.Numbering.{Numbering}
 use Rattle.run_steps.specs.declared.outputs.Outputs.{Outputs}
 use Rattle.run_steps.specs.declared.status.LimitKind.TheVariants.{Grid}
 use Rattle.run_steps.specs.declared.status.Status.{Status}
-use Rattle.run_steps.specs.declared.status.Status.TheVariants.{Usage, Empty, Limit, Flat, NoMemory, WriteFault}
+use Rattle.run_steps.specs.declared.status.Status.TheVariants.{Usage, BadText, Empty, Limit, Flat, NoMemory, WriteFault}
 use Rattle.tetgen_run.proofs.Endings.{NumbersPoints, Refuses}
 use Rattle.tetgen_run.proofs.Refusals.{IsRefusal, IsSilent, not_true, step_refuses}
 use Rattle.tetgen_run.proofs.Runs.{bound_silent, mesh_by, meshed_refuses}
@@ -101,21 +103,24 @@ numbered folder name options model hint m s None r f n h =
 numbered folder name options model hint m s (Some by) r f n h =
     λ t. (model.input, r, m, f, n.0, n.1, ap Some n.3, subst (λ q. IsHintBy fit_limits (at_decimals m (with_origin model.input options)) model.input q s hint) n.3 h)
 
--- ---- a point off the grid, and points in one plane
+-- ---- a keyword, a point off the grid, and points in one plane
 
 -- the status is none of these
 abbrev HasNoLine : Status → Type 0
+HasNoLine (BadText name fault) = ⊥
 HasNoLine (Limit (Grid line)) = ⊥
 HasNoLine Flat = ⊥
 HasNoLine Empty = ⊥
 HasNoLine status = Unit {0}
 
--- no reading of a model is refused for one
-model_no_line : (folder : FolderSeen) (name : List ℕ) (options : Options) (s : Status) → ModelAnswer fit_limits folder name options (Err s) → HasNoLine s
-model_no_line = model_has HasNoLine (λ name. tt) (λ name. tt) (λ name fault. tt) (λ name most. tt) tt fit_limits
+-- of the refusals of a model that is not read, that of its text alone has one
+model_told : (folder : FolderSeen) (name : List ℕ) (options : Options) (hint : List ℕ) (s : Status) → ModelAnswer fit_limits folder name options (Err s) → TellsBadText (named_surface options) folder name hint s → TellsUnnamed name options folder hint s
+model_told folder name options hint =
+    model_has (λ s. TellsBadText (named_surface options) folder name hint s → TellsUnnamed name options folder hint s) (λ file t. tt) (λ file t. tt) (λ file fault t. t) (λ file most t. tt) (λ t. tt) fit_limits folder name options
 
 -- of another status nothing is told
 no_line : (folder : FolderSeen) (name : List ℕ) (options : Options) (hint : List ℕ) (s : Status) → HasNoLine s → TellsUnnamed name options folder hint s
+no_line folder name options hint (BadText file fault) h = absurd h
 no_line folder name options hint (Limit (Grid line)) h = absurd h
 no_line folder name options hint Flat h = absurd h
 no_line folder name options hint Empty h = absurd h
@@ -124,6 +129,8 @@ no_line folder name options hint s h = tt
 unnamed : (folder : FolderSeen) (name : List ℕ) (options : Options) (model : Model) (hint : List ℕ) (m : ℕ) (s : Status) (by : Option Numbering) → ModelAnswer fit_limits folder name options (Ok model.input) → IsStatedBy folder name options model.stated
     → IsFitted fit_limits (with_origin model.input options) model.input m (Err s) → IsNumbered fit_limits (at_decimals m (with_origin model.input options)) model.input s by
     → IsHint fit_limits model.stated (at_decimals m (with_origin model.input options)) model.input by s hint → TellsUnnamed name options folder hint s
+unnamed folder name options model hint m (BadText file fault) None r w f n h = absurd n
+unnamed folder name options model hint m (BadText file fault) (Some by) r w f n h = made_told folder name hint (at_decimals m (with_origin model.input options)) n.0 (BadText file fault) h n.2
 unnamed folder name options model hint m (Limit (Grid line)) None r w f n h = (model.input, r, model.stated, w, h)
 unnamed folder name options model hint m (Limit (Grid line)) (Some by) r w f n h = absurd (made_on_grid (at_decimals m (with_origin model.input options)) n.0 (Limit (Grid line)) n.2)
 unnamed folder name options model hint m Flat None r w f n h = absurd n
@@ -162,12 +169,12 @@ emptied options model limits m made hint test Unsummed l f e t h = absurd h
 emptied options model limits m made hint test Wanting l f e t h = tt
 
 -- where there is no model
-pub model_stops : (folder : FolderSeen) (wanted : Wanted) (hint : List ℕ) (s : Status) → ModelAnswer fit_limits folder wanted.name wanted.options (Err s)
+pub model_stops : (folder : FolderSeen) (wanted : Wanted) (hint : List ℕ) (s : Status) → ModelAnswer fit_limits folder wanted.name wanted.options (Err s) → TellsBadText (named_surface wanted.options) folder wanted.name hint s
     → StopsSo (OutputsOfWanted wanted folder) (IsKnownOf wanted.name wanted.options folder hint) (Refused s None)
-model_stops folder wanted hint s r =
+model_stops folder wanted hint s r t =
     let name = wanted.name in
     let options = wanted.options in
-    (inl r, (numbers_of name options folder hint s None (model_silent folder name options s r), no_line folder name options hint s (model_no_line folder name options s r)))
+    (inl r, (numbers_of name options folder hint s None (model_silent folder name options s r), model_told folder name options hint s r t))
 
 -- where it has no mesh
 pub unfitted_stops : (folder : FolderSeen) (wanted : Wanted) (model : Model) (hint : List ℕ) (stop : Stop) → ModelAnswer fit_limits folder wanted.name wanted.options (Ok model.input) → IsStatedBy folder wanted.name wanted.options model.stated

@@ -5,6 +5,7 @@ pub mod Fitted
 pub mod Pieces
 mod RefinedRuns
 pub mod Models
+mod Keywords
 mod Appends
 mod Firsts
 mod OffGrid

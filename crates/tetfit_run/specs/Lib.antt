@@ -13,6 +13,7 @@ pub mod Texts
 pub mod Grids
 pub mod Hints
 pub mod Holes
+pub mod Keyword
 pub mod Models
 pub mod Opening
 pub mod Sides

@@ -8,7 +8,7 @@ use Rattle.run_steps.specs.declared.numbering.Numbering.{Numbering}
 use Rattle.run_steps.specs.declared.status.LimitKind.{LimitKind}
 use Rattle.run_steps.specs.declared.status.LimitKind.TheVariants.{Corners, Grid}
 use Rattle.run_steps.specs.declared.status.Status.{Status}
-use Rattle.run_steps.specs.declared.status.Status.TheVariants.{Usage, Missing, Limit, Empty, Flat, NotFlat, SegmentsCross, Crossing, GridEnd, BudgetEnd, NoFill}
+use Rattle.run_steps.specs.declared.status.Status.TheVariants.{Usage, Missing, BadText, Limit, Empty, Flat, NotFlat, SegmentsCross, Crossing, GridEnd, BudgetEnd, NoFill}
 
 -- the beginning of each line
 abbrev pub tetfit_name : List ℕ
@@ -45,9 +45,10 @@ line_of words by (Limit (Grid line)) = []
 line_of words by Flat = []
 line_of words by status = message_of tetfit_name by status
 
--- lines on the model follow: on a segment, on crossing parts, on a point off the grid, on points in one plane, on rounded
--- coordinates, or on an open side
+-- lines on the model follow: on a keyword, on a segment, on crossing parts, on a point off the grid, on points in one plane, on
+-- rounded coordinates, or on an open side
 abbrev pub has_hint : Status → Bool
+has_hint (BadText name fault) = true
 has_hint (Limit (Grid line)) = true
 has_hint Flat = true
 has_hint Empty = true

@@ -1,10 +1,11 @@
 -- The status of a run of `tetfit`, the files that it leaves, and its messages.
 use Rattle.std.specs.Prelude.{◌≡◌, ◌≢◌, ◌≤◌, ◌⊎◌, ℕ, IsTrue, false, List, Option, Some, None, Ok, Err}
 use Rattle.command_words.specs.declared.options.Options.{Options}
+use Rattle.tetfit_run.specs.Keyword.{TellsKeyword}
 use Rattle.tetfit_run.specs.Hints.{IsHint, IsHintBy, flat_text, moved_text, off_grid_text}
 use Rattle.tetfit_run.specs.Measured.{BoundTried, origin_in, tried, with_origin}
 use Rattle.grid_coords.specs.declared.origin.WholePoint.{WholePoint}
-use Rattle.tetfit_run.specs.Models.{IsStatedBy, ModelAnswer}
+use Rattle.tetfit_run.specs.Models.{IsStatedBy, ModelAnswer, named_surface}
 use Rattle.tetfit_run.specs.Trying.{IsFitted, IsNumbered, at_decimals}
 use Rattle.tetfit_run.specs.Stages.{AreStagesPut, since, until}
 use Rattle.refining.specs.declared.goal.Goal.{Goal}
@@ -24,7 +25,7 @@ use Rattle.run_steps.specs.declared.numbering.Numbering.{Numbering}
 use Rattle.run_steps.specs.declared.outputs.Outputs.{Outputs}
 use Rattle.run_steps.specs.declared.status.LimitKind.TheVariants.{Grid}
 use Rattle.run_steps.specs.declared.status.Status.{Status}
-use Rattle.run_steps.specs.declared.status.Status.TheVariants.{Done, Empty, Limit, Flat, NoMemory}
+use Rattle.run_steps.specs.declared.status.Status.TheVariants.{Done, BadText, Empty, Limit, Flat, NoMemory}
 use Rattle.tet_ports.specs.Files.{Files}
 use Rattle.tetgen_run.specs.Ends.{AnswersBy, HasNoFault, LeavesBy, TellsBy, names_points}
 use Rattle.tetgen_run.specs.Run.{IsMeshBy}
@@ -172,11 +173,13 @@ IsNumberingOf name options folder hint status by =
 abbrev pub IsFitNumbering : List (List ℕ) → FolderSeen → List ℕ → Status → Option Numbering → Type 0
 IsFitNumbering words = IsNumberingOf (fit_name words) (fit_options words)
 
--- The lines that follow a message that prints no points. For a model off the grid, the first point that is off it with coordinates
+-- The lines that follow a message that prints no points. For an `.off` file that is not in its grammar, that its first field is a
+-- keyword that is not read, where it is one. For a model off the grid, the first point that is off it with coordinates
 -- rounded to whole numbers is reported: its place in the file, by the line, or by the facet of a binary file, and its coordinates. For
 -- points in one plane, that they are, or that the file has none, and that they were rounded, where they were. For a mesh without a
 -- tetrahedron, which side is open, that each side is shared, or that hole points carve all of it
 abbrev pub TellsUnnamed : List ℕ → Options → FolderSeen → List ℕ → Status → Type 0
+TellsUnnamed name options folder hint (BadText file fault) = TellsKeyword (named_surface options) folder name hint
 TellsUnnamed name options folder hint (Limit (Grid line)) =
     (input : Input) × ModelAnswer fit_limits folder name options (Ok input)
     × (stated : Stated) × IsStatedBy folder name options stated

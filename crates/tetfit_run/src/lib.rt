@@ -15,6 +15,7 @@ mod goal;
 mod grids;
 mod hints;
 mod holes;
+mod keyword;
 mod kinds;
 mod limits;
 mod messages;

@@ -99,12 +99,13 @@ fn line_of(
     }
 }
 
-/// Whether lines on the model follow: on a segment, on crossing parts, on a point off the grid, on
-/// points in one plane, on rounded coordinates, or on an open side.
+/// Whether lines on the model follow: on a keyword, on a segment, on crossing parts, on a point off
+/// the grid, on points in one plane, on rounded coordinates, or on an open side.
 fn has_hint(status: &Status) -> bool
     ensures { result ≡ has_hint status.now }
 {
     match status {
+        Status::BadText { name: _, fault: _ } => true,
         Status::Limit {
             what: LimitKind::Grid { line: _ },
         } => true,

@@ -1,12 +1,13 @@
 //! Reads the model that the options name.
 
-ghost use Rattle.std.specs.Prelude.{◌≡◌, ◌≤◌, ◌<◌, ◌-◌, ◌^◌, ℕ, length, Ok, IfOk, IfSome};
+ghost use Rattle.std.specs.Prelude.{◌≡◌, ◌≤◌, ◌<◌, ◌-◌, ◌^◌, ℕ, [], length, Some, Ok, IfOk, IfErr, IfSome};
 ghost use Rattle.node_files.specs.Limits.{AreIndexable};
 ghost use Rattle.plc_files.specs.Checks.{HasFewParts};
 ghost use Rattle.plc_files.specs.Outcome.{PlcGives};
 ghost use Rattle.run_steps.specs.Reading.{complex_file, IsSound, TextAnswer};
 ghost use Rattle.tet_ports.specs.Seen.{IsOnlyRead, folder_seen};
 ghost use Rattle.run_steps.specs.Steps.{AndThen, Gives};
+ghost use Rattle.tetfit_run.specs.Keyword.{TellsBadText};
 ghost use Rattle.tetfit_run.specs.Models.{named_surface, surface_form, surface_text_of};
 ghost use Rattle.grid_coords.specs.Origins.{IsNear};
 ghost use Rattle.plc_files.specs.Checks.{corners_check};
@@ -15,6 +16,7 @@ ghost use Rattle.tetfit_run.specs.Models.{input_in, stated_of, IsStatedBy, IsSta
 ghost use Rattle.tetfit_run.specs.Models.{ModelAnswer, MovedFrom, SurfaceInputAnswer};
 
 use crate::grids::most_tried;
+use crate::keyword::keyword_text;
 use command_words::{Extension, Options};
 use grid_coords::{WholePoint, origin_of};
 use node_files::Limits;
@@ -43,6 +45,14 @@ pub(crate) struct Model {
     /// The point from which coordinates are measured, where it is not zero.
     pub(crate) origin: Option<WholePoint>,
     pub(crate) stated: Stated,
+}
+
+/// The file of a surface, by its name, its base and its extension.
+#[derive(Drop)]
+struct NamedSurface<'a> {
+    name: &'a Name,
+    base: &'a Name,
+    form: Extension,
 }
 
 /// The unit of the places in a surface: facets in a binary `.stl` file, lines in a text.
@@ -110,31 +120,35 @@ fn with_stated(read: Result<Input, Status>, stated: Stated) -> Result<Model, Sta
     }
 }
 
-/// The model of the surface in the file `name`, whose base is `base`.
+/// The model of the surface in a file. Where it refuses the text of an `.off` file whose keyword is
+/// not read, the line on that keyword is in `hint`.
 fn read_surface<F: Folder>(
     alloc: Global,
     limits: Limits,
-    name: &Name,
-    base: &Name,
-    form: Extension,
+    named: &NamedSurface,
     folder: &mut F,
+    hint: &mut Bytes,
 ) -> Result<Model, Status>
     requires { AreIndexable limits }
     ensures answer { AndThen (SurfaceInputAnswer limits
-        (folder_seen F.state folder.old folder.new) name.now base.now form) MovedAnswer
-        (input_in result) }
+        (folder_seen F.state folder.old folder.new) named.now.name.now named.now.base.now
+        named.now.form) MovedAnswer (input_in result) }
     ensures stated { IfOk result (λ model. IsStatedInSurface
-        (folder_seen F.state folder.old folder.new) name.now form model.stated) }
+        (folder_seen F.state folder.old folder.new) named.now.name.now named.now.form
+        model.stated) }
+    ensures told { IfErr result (TellsBadText (Some named.now.form)
+        (folder_seen F.state folder.old folder.new) named.now.name.now hint.new) }
     ensures sound { IfOk result (λ model. IsSound model.input) }
     ensures origin { IfOk result (λ model. model.origin ≡ origin_in model.input) }
     ensures near { IfOk result (λ model. IfSome model.origin (IsNear (most_tried model.input))) }
     ensures only_read { IsOnlyRead (folder_seen F.state folder.old folder.new) }
 {
-    let asked = Name::from_slice(alloc, name.as_slice())?;
+    let asked = Name::from_slice(alloc, named.name.as_slice())?;
     let file = fetch(alloc, limits, asked, folder)?;
-    let stated = stated_of(form, &file.bytes);
-    let surface = surface_of(alloc, form, file)?;
-    let read = with_points(alloc, limits, base, surface, folder);
+    *hint = keyword_text(alloc, named.form, named.name, &file.bytes)?;
+    let stated = stated_of(named.form, &file.bytes);
+    let surface = surface_of(alloc, named.form, file)?;
+    let read = with_points(alloc, limits, named.base, surface, folder);
     with_stated(read, stated)
 }
 
@@ -142,27 +156,36 @@ fn read_surface<F: Folder>(
 /// the one with this name, and is read in the wide grammar (`read_wide_off`, `read_wide_stl`), and
 /// an `.stl` file may be a binary one, which is known by its length; with its hole points and
 /// region points measured from its origin. Each file is fetched once. It refuses as `read_input`
-/// does, and stores nothing.
+/// does, and stores nothing; where it refuses the text of an `.off` file whose keyword is not read,
+/// the line on that keyword is in `hint`.
 pub(crate) fn read_model<F: Folder>(
     alloc: Global,
     limits: Limits,
     name: &Name,
     options: &Options,
     folder: &mut F,
+    hint: &mut Bytes,
 ) -> Result<Model, Status>
     requires limits { AreIndexable limits }
     requires sample { IfSome options.now.sample (λ n. n ≤ 10000) }
+    requires none { hint.old ≡ [] }
     ensures answer { ModelAnswer limits
         (folder_seen F.state folder.old folder.new) name.now options.now (input_in result) }
     ensures stated { IfOk result (λ model. IsStatedBy
         (folder_seen F.state folder.old folder.new) name.now options.now model.stated) }
+    ensures told { IfErr result (TellsBadText (named_surface options.now)
+        (folder_seen F.state folder.old folder.new) name.now hint.new) }
     ensures sound { IfOk result (λ model. IsSound model.input) }
     ensures origin { IfOk result (λ model. model.origin ≡ origin_in model.input) }
     ensures near { IfOk result (λ model. IfSome model.origin (IsNear (most_tried model.input))) }
     ensures only_read { IsOnlyRead (folder_seen F.state folder.old folder.new) }
 {
     match named_surface(options) {
-        Some(form) => read_surface(alloc, limits, name, &options.base, form, folder),
+        Some(form) => {
+            let base = &options.base;
+            let named = NamedSurface { name, base, form };
+            read_surface(alloc, limits, &named, folder, hint)
+        }
         None => {
             let read = read_input(alloc, limits, options, folder);
             with_stated(read, Stated::Lines)

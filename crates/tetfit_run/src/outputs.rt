@@ -320,7 +320,8 @@ fn outputs_of_wanted<F: Folder, W: Watch>(
     ensures only_read { IsOnlyRead (folder_seen F.state folder.old folder.new) }
     ensures shown { SeesRounds W.shown watch.old watch.new }
 {
-    let model = read_model(alloc, fit_limits(), &wanted.name, &wanted.options, folder)?;
+    let options = &wanted.options;
+    let model = read_model(alloc, fit_limits(), &wanted.name, options, folder, hint)?;
     let placed = wanted_from(alloc, wanted, &model)?;
     fitted_outputs(alloc, &placed, &model, hint, watch)
 }

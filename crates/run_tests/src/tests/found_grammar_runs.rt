@@ -31,7 +31,15 @@ const MISSING: &[u8] = b"\
 tetfit: part.Off: not found\n\
 tetfit: the file of a model is .node, .poly, .smesh, .off or .stl: give its name whole\n";
 
-static SURFACES: [Run<'static>; 5] = [
+/// The head of a file whose points have four coordinates.
+const FOUR: &[u8] = b"# a cube in four dimensions\n4OFF\n16 24 32\n";
+
+const UNREAD: &[u8] = b"\
+tetfit: part.off: line 2: bad count\n\
+tetfit: part.off: line 2: 4OFF is not read: \
+OFF, COFF, NOFF, CNOFF, STOFF, STCOFF, STNOFF and STCNOFF are\n";
+
+static SURFACES: [Run<'static>; 6] = [
     Run {
         name: "points with colors",
         held: &[(b"t.off", &[COLORED])],
@@ -73,6 +81,13 @@ static SURFACES: [Run<'static>; 5] = [
         held: &[(b"part.off", &[COLORED])],
         words: &[b"part.Off"],
         end: Refused(2, MISSING),
+        files: &[(b"part.1.ele", None)],
+    },
+    Run {
+        name: "a keyword that is not read",
+        held: &[(b"part.off", &[FOUR])],
+        words: &[b"part.off"],
+        end: Refused(4, UNREAD),
         files: &[(b"part.1.ele", None)],
     },
     Run {

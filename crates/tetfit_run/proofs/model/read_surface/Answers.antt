@@ -1,4 +1,5 @@
-use Rattle.std.proofs.Common.{Ok, ◌∙◌}
+use Rattle.std.proofs.Common.{Some, Ok, ◌∙◌}
+use Rattle.std.proofs.lemmas.Result.{err_from_is_err_and}
 use Rattle.run_steps.specs.Reading.{NodesAnswer, BoundedAnswer}
 use Rattle.tet_ports.specs.Seen.{FolderSeen, folder_seen}
 use Rattle.run_steps.specs.Steps.{AndThen}
@@ -6,6 +7,9 @@ use Rattle.run_steps.proofs.Steps.{and_then_ok}
 use Rattle.tet_ports.proofs.Windows.{IsWithin, first_within, last_within}
 use Rattle.run_steps.proofs.Wider.{bounded_wider}
 use Rattle.tetfit_run.specs.Models.{input_in, SurfaceAnswer, SurfaceInputAnswer}
+use Rattle.tetfit_run.specs.Keyword.{TellsBadText}
+use Rattle.run_steps.specs.declared.status.Status.{Status}
+use Rattle.tetfit_run.proofs.Keywords.{each_told, fetch_told, keyword_told}
 use Rattle.tetfit_run.proofs.Models.{moved_on, stated_told, surface_fetched, surface_wider}
 use Rattle.tetfit_run.proofs.model.read_surface.Goals as goal
 
@@ -13,9 +17,9 @@ pub returns-clause-answer : goal.returns-clause-answer
 returns-clause-answer g c =
     let F = g.F.Folder in
     let l = c.args.limits in
-    let name = c.args.name.now in
-    let base = c.args.base.now in
-    let form = c.args.form in
+    let name = c.args.named.now.name.now in
+    let base = c.args.named.now.base.now in
+    let form = c.args.named.now.form in
     let file = c.in_ok-file.file in
     let surface = c.in_ok-surface.surface in
     let first : FolderSeen = folder_seen F.state c.args.folder.now c.fetch.new.folder in
@@ -36,4 +40,35 @@ returns-clause-stated g c =
     let file = c.in_ok-file.file in
     let wide : FolderSeen = folder_seen F.state c.args.folder.now c.with_points-read.new.folder in
     let a = c.in_ok-file.ensures in
-    stated_told c.args.limits wide c.args.name.now c.args.form c.in_ok-asked.asked file.bytes c.stated_of-stated.result c.with_stated.result (c.in_ok-asked.ensures ∙ c.as_slice.ensures) a.read c.stated_of-stated.ensures c.with_stated.ensures.stated
+    stated_told c.args.limits wide c.args.named.now.name.now c.args.named.now.form c.in_ok-asked.asked file.bytes c.stated_of-stated.result c.with_stated.result (c.in_ok-asked.ensures ∙ c.as_slice.ensures) a.read c.stated_of-stated.ensures c.with_stated.ensures.stated
+
+pub returns-clause-told : goal.returns-clause-told
+returns-clause-told g c =
+    let F = g.F.Folder in
+    let file = c.in_ok-file.file in
+    let name = c.args.named.now.name.now in
+    let form = c.args.named.now.form in
+    let hint = c.in_ok-hint.field-0 in
+    let wide : FolderSeen = folder_seen F.state c.args.folder.now c.with_points-read.new.folder in
+    let a = c.in_ok-file.ensures in
+    each_told (TellsBadText (Some form) wide name hint) c.with_stated.result
+    (λ (s : Status). keyword_told c.args.limits wide name form c.in_ok-asked.asked file.bytes hint s (c.in_ok-asked.ensures ∙ c.as_slice.ensures) a.read c.in_ok-hint.ensures)
+
+pub returns-in_err-file-clause-told : goal.returns-in_err-file-clause-told
+returns-in_err-file-clause-told g c =
+    let F = g.F.Folder in
+    let seen : FolderSeen = folder_seen F.state c.args.folder.now c.fetch.new.folder in
+    let result = c.from_residual-in_err-file.result in
+    let p = err_from_is_err_and result c.from_residual-in_err-file.ensures.1 in
+    rw (p.1, p.2) (fetch_told c.args.limits seen c.in_ok-asked.asked (Some c.args.named.now.form) c.args.named.now.name.now c.args.hint.now c.in_err-file.field-0.0 c.in_err-file.ensures.err)
+
+pub returns-in_err-surface-clause-told : goal.returns-in_err-surface-clause-told
+returns-in_err-surface-clause-told g c =
+    let F = g.F.Folder in
+    let file = c.in_ok-file.file in
+    let name = c.args.named.now.name.now in
+    let form = c.args.named.now.form in
+    let hint = c.in_ok-hint.field-0 in
+    let wide : FolderSeen = folder_seen F.state c.args.folder.now c.fetch.new.folder in
+    each_told (TellsBadText (Some form) wide name hint) c.from_residual-in_err-surface.result
+    (λ (s : Status). keyword_told c.args.limits wide name form c.in_ok-asked.asked file.bytes hint s (c.in_ok-asked.ensures ∙ c.as_slice.ensures) c.in_ok-file.ensures.read c.in_ok-hint.ensures)

@@ -19,7 +19,7 @@ returns-in_err-model-clause-stopped g c =
     let options = wanted.options in
     let status = c.in_err-model.field-0.0 in
     let p = err_from_is_err_and c.from_residual.result c.from_residual.ensures.1 in
-    rw (p.1, p.2) (model_stops folder wanted c.args.hint.now status (subst (λ limits. ModelAnswer limits folder wanted.name options (Err status)) c.fit_limits.ensures.values c.in_err-model.ensures.answer))
+    rw (p.1, p.2) (model_stops folder wanted c.read_model.new.hint status (subst (λ limits. ModelAnswer limits folder wanted.name options (Err status)) c.fit_limits.ensures.values c.in_err-model.ensures.answer) c.in_err-model.ensures.told)
 
 pub returns-clause-stopped : goal.returns-clause-stopped
 returns-clause-stopped g c =
