@@ -89,7 +89,7 @@ no_sample words e =
     let plain : plain_fault (grammar_words words) ≡ None = mapped_none (among_all words) (plain_fault (grammar_words words)) (first_none _ _ (second_none _ _ e)) in
     let options = plain_options (grammar_words words) in
     let elsewhere : asks_elsewhere options ≡ false = unless_none (asks_elsewhere options) _ (second_none _ _ plain) in
-    none_of options.sample (second_false (is_some options.decimals) (is_some options.sample) (second_false (options.weighted || options.check) (is_some options.decimals || is_some options.sample) elsewhere))
+    none_of options.sample (second_false (options.weighted || options.check) (is_some options.sample) elsewhere)
 
 -- ---- the model
 

@@ -90,7 +90,7 @@ of_grid s e n = true≢false (sym e ∙ ap is_of_grid n)
 -- at more decimals than those of a mesh the grid refuses
 none_finer : (options : Options) (input : Input) (m n : ℕ) (a b : Outputs) → m < n → IsFitted fit_limits options input m (Ok a) → IsFitted fit_limits options input n (Ok b) → ⊥
 none_finer options input m n a b l h k =
-    let r = h.finer n l k.within in
+    let r = h.finer n l k.within.most in
     let same : Done ≡ forced_answer r.status = meshed_same fit_limits (at_decimals n options) (tried (at_decimals n options) input) (Ok b) (Err r.status) tt (of_grid r.status r.of_grid) k.answer r.answer in
     true≢false (sym (ap is_of_grid same ∙ grid_forced r.status ∙ r.of_grid))
 

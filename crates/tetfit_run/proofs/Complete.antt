@@ -4,7 +4,7 @@ use Rattle.std.specs.Prelude.{◌≢◌}
 use Rattle.box_tree.proofs.Lists.{less_or_more}
 use Rattle.command_words.specs.declared.options.Extension.{Extension}
 use Rattle.command_words.specs.declared.options.Options.{Options}
-use Rattle.tetfit_run.specs.Measured.{MovedAnswer, tried, with_origin}
+use Rattle.tetfit_run.specs.Measured.{MovedAnswer, last_tried, tried, with_origin}
 use Rattle.tetfit_run.specs.Models.{ModelAnswer, ModelBy, ReadAnswer, SurfaceAnswer, named_surface, surface_text_of}
 use Rattle.tetfit_run.specs.Trying.{IsFitted, at_decimals, is_of_grid}
 use Rattle.tetfit_run.specs.Words.{fit_fault, fit_goal, fit_options, others, request_of}
@@ -78,7 +78,7 @@ grid_forced (NoFill anomaly) = refl
 grid_forced s = refl
 
 -- an answer that is the same as a refusal of the grid is one
-refused_too : (options : Options) (input : Input) (n : ℕ) (b : Result Outputs Status) → IsFitted fit_limits options input n b → is_of_grid (status_of b) ≡ true → n ≡ 0
+refused_too : (options : Options) (input : Input) (n : ℕ) (b : Result Outputs Status) → IsFitted fit_limits options input n b → is_of_grid (status_of b) ≡ true → n ≡ last_tried options input
 refused_too options input n (Ok outputs) k e = absurd (cc)
 refused_too options input n (Err s) k e = k.last (sym (grid_forced s) ∙ e)
 
@@ -92,10 +92,10 @@ of_grid_decided s e = λ n. absurd (wanting (sym (ap is_of_grid n) ∙ e))
 -- no input is fitted at two numbers of decimals
 none_finer : (options : Options) (input : Input) (m n : ℕ) (a b : Result Outputs Status) → m < n → IsDecided b → IsFitted fit_limits options input m a → IsFitted fit_limits options input n b → ⊥
 none_finer options input m n a b l d h k =
-    let r = h.finer n l k.within in
+    let r = h.finer n l k.within.most in
     let e = meshed_same fit_limits (at_decimals n options) (tried (at_decimals n options) input) b (Err r.status) d (of_grid_decided r.status r.of_grid) k.answer r.answer in
     let z = refused_too options input n b k (ap is_of_grid e ∙ grid_forced r.status ∙ r.of_grid) in
-    omega (arith, l, z)
+    omega (arith, l, z, h.within.least)
 
 fits_same : (options : Options) (input : Input) (m n : ℕ) (a b : Result Outputs Status) → IsDecided a → IsDecided b → IsFitted fit_limits options input m a → IsFitted fit_limits options input n b
     → (m ≡ n) × (status_of a ≡ status_of b)

@@ -40,7 +40,7 @@ use Rattle.tetgen_run.specs.declared.stop.Stop.{Stop}
 use Rattle.tetgen_run.specs.declared.stop.Stop.TheVariants.{Refused, Unwritten, Unsummed, NoMemory as Wanting}
 use Rattle.tetfit_run.specs.Checks.{OutputsOfCheck}
 use Rattle.tetfit_run.specs.Outputs.{FitWordsAnswer, IsConformedAt, IsConformedBy, IsFinalBy, IsFitUsage, IsFittedTo, IsMeshedTo, IsOffSomeGrid, MadeBy, OutputsOfFit, OutputsOfModel, OutputsOfWanted, fit_limits, outputs_at, wanted_from}
-use Rattle.tetfit_run.specs.Measured.{most_tried, origin_in, tried, with_origin}
+use Rattle.tetfit_run.specs.Measured.{origin_in, tried, with_origin}
 use Rattle.tetfit_run.specs.Run.{IsAskedBy, IsConformedModel, IsFinalMesh, IsModelMesh, IsKnown, IsKnownBy, IsKnownOf, IsMeshOfModel, IsFitNumbering, IsNumberingOf, IsTriedOf, IsUnfitted, TellsBehind, TellsEmpty, TellsUnnamed, options_from}
 
 -- ---- answers
@@ -131,7 +131,7 @@ unnamed : (folder : FolderSeen) (name : List ℕ) (options : Options) (model : M
     → IsHint fit_limits model.stated (at_decimals m (with_origin model.input options)) model.input by s hint → TellsUnnamed name options folder hint s
 unnamed folder name options model hint m (BadText file fault) None r w f n h = absurd n
 unnamed folder name options model hint m (BadText file fault) (Some by) r w f n h = made_told folder name hint (at_decimals m (with_origin model.input options)) n.0 (BadText file fault) h n.2
-unnamed folder name options model hint m (Limit (Grid line)) None r w f n h = (model.input, r, model.stated, w, h)
+unnamed folder name options model hint m (Limit (Grid line)) None r w f n h = (model.input, r, model.stated, w, m, f, h)
 unnamed folder name options model hint m (Limit (Grid line)) (Some by) r w f n h = absurd (made_on_grid (at_decimals m (with_origin model.input options)) n.0 (Limit (Grid line)) n.2)
 unnamed folder name options model hint m Flat None r w f n h = absurd n
 unnamed folder name options model hint m Flat (Some by) r w f n h = (model.input, r, m, f, h)
@@ -255,13 +255,7 @@ pub conformed_told : (wanted : Wanted) (input : Input) (n : ℕ) (final : Output
     → more ≡ moved_text n input.nodes.decimals → IsFittedTo wanted input (Ok (outputs_at n more final))
 conformed_told wanted input n final more h k = inr (n, final, h, ap (λ t. outputs_at n t final) k)
 
--- the grid refuses an input at some number of decimals: at the first one that is tried, or where it is refused
-pub off_first_grid : (limits : Limits) (options : Options) (input : Input) (refused : Unfit) (most : ℕ) → limits ≡ fit_limits → IsRefused limits options input refused → most ≡ most_tried input
-    → refused.decimals < most → IsOffSomeGrid options input
-off_first_grid limits options input refused most l r e few =
-    let k = subst (λ q. IsRefused q options input refused) l r in
-    record { decimals = most_tried input; within = omega arith; refused = k.0.finer (most_tried input) (omega (arith, few, e)) (omega arith) }
-
+-- the grid refuses an input where it is refused
 pub off_last_grid : (limits : Limits) (options : Options) (input : Input) (refused : Unfit) → limits ≡ fit_limits → IsRefused limits options input refused → is_of_grid refused.end.status ≡ true
     → IsOffSomeGrid options input
 off_last_grid limits options input refused l r e =

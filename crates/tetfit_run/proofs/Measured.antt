@@ -1,5 +1,5 @@
 -- Inputs that are measured from an origin.
-use Rattle.std.proofs.Common.{◌≡◌, ℕ, zero, suc, ◌+◌, ◌*◌, ◌-◌, ◌^◌, ◌<◌, ◌≤◌, List, length, Option, Some, None, Ok, refl, sym, subst, arith, inl, inr}
+use Rattle.std.proofs.Common.{◌≡◌, ℕ, zero, suc, ◌+◌, ◌*◌, ◌-◌, ◌^◌, ◌<◌, ◌≤◌, List, length, Option, Some, None, Ok, refl, sym, ap, ◌∙◌, subst, arith, inl, inr}
 use Rattle.std.specs.Prelude.{min, IfSome, if◌then◌else◌}
 use Rattle.std.proofs.lemmas.Bool.{cases_Bool}
 use Rattle.std.proofs.lemmas.List.{length-map}
@@ -14,7 +14,7 @@ use Rattle.node_files.specs.Settling.{measured_from}
 use Rattle.plc_files.specs.Checks.{corners_check}
 use Rattle.run_steps.specs.Reading.{IsSound}
 use Rattle.run_steps.specs.declared.input.Input.{Input}
-use Rattle.tetfit_run.specs.Measured.{most_from, most_tried, origin_in, points_by, tried, with_origin}
+use Rattle.tetfit_run.specs.Measured.{first_from, first_tried, last_from, last_tried, most_from, most_tried, origin_in, points_by, tried, with_origin, IsInPlaceOf, IsTried}
 use Rattle.tetfit_run.specs.Trying.{AreTriable}
 
 -- ---- origins that are near
@@ -47,6 +47,57 @@ near_le w (suc n) =
       | inl near ↦ rw near (omega arith)
       | inr far ↦ let le = near_le w n in rw far (omega arith)
     ]
+
+-- none of them is over the most
+first_le : (given : Option ℕ) (most : ℕ) → first_from given most ≤ most
+first_le None most = omega arith
+first_le (Some n) most = omega arith
+
+pub tried_few : (options : Options) (input : Input) (m : ℕ) → IsTried options input m → m ≤ most_tried input
+tried_few options input m t = let le = first_le options.decimals (most_tried input) in omega (arith, t.most, le)
+
+-- the first one, as it is found
+pub first_is : (options : Options) (input : Input) (points : List DecimalPoint) (first : ℕ) → options.origin ≡ origin_in input → points ≡ input.nodes.decimals
+    → first ≡ first_from options.decimals (most_from options.origin (most_decimals points)) → first ≡ first_tried options input
+first_is options input points first o p e =
+    e ∙ ap (λ (w : Option WholePoint). first_from options.decimals (most_from w (most_decimals points))) o
+    ∙ ap (λ (ps : List DecimalPoint). first_from options.decimals (most_from (origin_in input) (most_decimals ps))) p
+
+pub last_is : (options : Options) (input : Input) (first last : ℕ) → first ≡ first_tried options input → last ≡ last_from options.decimals first → last ≡ last_tried options input
+last_is options input first last f l = l ∙ ap (last_from options.decimals) f
+
+last_le : (given : Option ℕ) (first : ℕ) → last_from given first ≤ first
+last_le None first = omega arith
+last_le (Some n) first = omega arith
+
+pub first_among : (options : Options) (input : Input) (first : ℕ) → first ≡ first_tried options input → IsTried options input first
+first_among options input first e = let le = last_le options.decimals (first_tried options input) in record { most = omega (arith, e); least = omega (arith, e, le) }
+
+-- below one that is over the last one there are others
+lower : (given : Option ℕ) (first m next : ℕ) → m ≤ first → last_from given first < m → last_from given first ≤ next
+lower None first m next le over = omega arith
+lower (Some n) first m next le over = absurd (omega arith)
+
+pub next_among : (options : Options) (input : Input) (last m next : ℕ) → IsTried options input m → last ≡ last_tried options input → last < m → next < m → IsTried options input next
+next_among options input last m next t e over less =
+    let le = lower options.decimals (first_tried options input) m next t.most (omega (arith, e, over)) in record { most = omega (arith, less, t.most); least = le }
+
+-- the last one
+pub at_last : (options : Options) (input : Input) (last m : ℕ) → IsTried options input m → last ≡ last_tried options input → m ≤ last → m ≡ last_tried options input
+at_last options input last m t e le = omega (arith, e, le, t.least)
+
+-- one in place of the first one
+placed : (given : Option ℕ) (first n : ℕ) → IsInPlaceOf given first n → (n ≤ first) × (last_from given first ≤ n)
+placed None first n h = (h, omega arith)
+placed (Some m) first n h = (omega arith, omega arith)
+
+pub in_place_same : (given : Option ℕ) (m : ℕ) → IsInPlaceOf given m m
+in_place_same None m = omega arith
+in_place_same (Some n) m = refl
+
+pub in_place_among : (options : Options) (input : Input) (first n : ℕ) → first ≡ first_tried options input → IsInPlaceOf options.decimals first n → IsTried options input n
+in_place_among options input first n e h =
+    let among = placed options.decimals (first_tried options input) n (subst (λ (m : ℕ). IsInPlaceOf options.decimals m n) e h) in record { most = among.0; least = among.1 }
 
 -- options from the origin of an input are in their ranges with each number of decimals that is tried
 pub triable : (options : Options) (input : Input) → AreInRange options → IfSome (origin_in input) (IsNear (most_tried input)) → AreTriable (with_origin input options) input

@@ -14,6 +14,7 @@ use Rattle.grid_coords.specs.declared.points.DecimalPoint.{DecimalPoint}
 use Rattle.grid_coords.specs.declared.origin.WholePoint.{WholePoint}
 use Rattle.tet_text.specs.Decimals.{Scaled}
 use Rattle.tetfit_run.specs.Grids.{point_at, IsOffRounded}
+use Rattle.tetfit_run.specs.Hints.{finest_at}
 
 -- ---- the most decimals
 
@@ -29,6 +30,21 @@ one_most o m ps i p lt is =
 -- so have one more point and those before it
 pub either_most : (one before all greatest : ℕ) {here : ℕ} → one ≡ here → here ≤ all → before ≤ all → greatest ≡ max one before → greatest ≤ all
 either_most one before all greatest same here earlier is = omega arith
+
+-- the most decimals of rounded points, front to back
+pub finest_more : (o : Option WholePoint) (m : ℕ) (ps : List DecimalPoint) (i : ℕ) (p : DecimalPoint) (most one greatest : ℕ) → i < length ps → p ≡ get_or ps i p
+    → one ≡ decimals_of (point_at o m p) → greatest ≡ max one most → max greatest (finest_at o m (drop (i + 1) ps)) ≡ max most (finest_at o m (drop i ps))
+unfolding most_decimals
+finest_more o m ps i p most one greatest lt is same next =
+    let e : finest_at o m (drop i ps) ≡ max (decimals_of (point_at o m p)) (finest_at o m (drop (i + 1) ps)) = ap (finest_at o m) (from_here ps i p lt is) in
+    at (decimals_of (point_at o m p)) (finest_at o m (drop (i + 1) ps)) (finest_at o m (drop i ps)) same e
+  where
+    at : (here behind all : ℕ) → one ≡ here → all ≡ max here behind → max greatest behind ≡ max most all
+    at here behind all s t = omega arith
+
+pub finest_all : (o : Option WholePoint) (m : ℕ) (ps : List DecimalPoint) (i most : ℕ) → length ps ≤ i → max most (finest_at o m (drop i ps)) ≡ most
+unfolding most_decimals
+finest_all o m ps i most le = let e : finest_at o m (drop i ps) ≡ 0 = at_drop_all (finest_at o m) ps i le in omega arith
 
 -- ---- sizes
 

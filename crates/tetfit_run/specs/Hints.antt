@@ -1,5 +1,5 @@
 -- The lines that follow the message on a refused model.
-use Rattle.std.specs.Prelude.{◌≡◌, ℕ, zero, suc, ◌+◌, ◌-◌, min, max, nat_lt, nat_le, ◌==◌, ◌&&◌, Bool, false, length, position, drop, find, slice_get, slice_index, List, [], ◌∷◌, ◌++◌, codes, Option, Some, None, Ok, Err, if◌then◌else◌}
+use Rattle.std.specs.Prelude.{◌≡◌, ℕ, zero, suc, ◌+◌, ◌-◌, min, max, nat_lt, nat_le, ◌==◌, ◌&&◌, Bool, false, length, position, drop, find, map, unwrap_or, slice_get, slice_index, List, [], ◌∷◌, ◌++◌, codes, Option, Some, None, Ok, Err, if◌then◌else◌}
 use Rattle.std.specs.Fmt.{decimal}
 use Rattle.std.specs.List.{list_any}
 use Rattle.std.specs.Option.{option_map_or}
@@ -216,23 +216,39 @@ at_line p = at_text p ++ codes "\n"
 abbrev pub point_line : Stated → DecimalPoint → List ℕ
 point_line stated p = has_text stated p.line ++ at_line p
 
--- the lines on a point off the grid: its place, and its coordinates
-abbrev pub off_grid_lines : Stated → DecimalPoint → List ℕ
-off_grid_lines stated p = refusal_line stated p.line ++ point_line stated p
+-- the line on a point off the grid, and that on its coordinates
+abbrev pub point_lines : Stated → DecimalPoint → List ℕ
+point_lines stated p = refusal_line stated p.line ++ point_line stated p
 
--- the point has a coordinate over `wide` units from the origin where coordinates are rounded to whole numbers
-abbrev pub is_off_whole : ℕ → Option WholePoint → DecimalPoint → Bool
-is_off_whole wide origin p = is_over wide 0 (point_at origin 0 p)
+-- what would help where coordinates are rounded to m decimals
+abbrev pub help_of_grid : ℕ → List ℕ
+help_of_grid m =
+    if m == 0 then codes "tetfit: no coordinate may be over 536870912 from the middle: scale the model down\n" else
+    codes "tetfit: no coordinate may be over 536870912 units of the last decimal from the middle: give fewer decimals\n"
 
--- the text on the first point that is off the grid
-abbrev pub off_grid_text : ℕ → Option WholePoint → Stated → List DecimalPoint → List ℕ
-off_grid_text wide origin stated points = option_map_or (off_grid_lines stated) (find (is_off_whole wide origin) points) []
+-- the lines on a point off the grid at m decimals: its place, its coordinates, and what would help
+abbrev pub off_grid_lines : ℕ → Stated → DecimalPoint → List ℕ
+off_grid_lines m stated p = point_lines stated p ++ help_of_grid m
 
--- the text on an input that is on no grid
-abbrev pub grid_hint : Limits → Option WholePoint → Stated → Input → Status → List ℕ
-grid_hint limits origin stated input (Limit (Grid line)) = off_grid_text limits.grid origin stated input.nodes.decimals
-grid_hint limits origin stated input status = []
+-- the most decimals of the points once they are rounded to m decimals, and measured from the origin
+abbrev pub finest_at : Option WholePoint → ℕ → List DecimalPoint → ℕ
+finest_at origin m points = most_decimals (map (point_at origin m) points)
+
+-- the point has a coordinate over `wide` units of 10^-finest from the origin, where coordinates are rounded to m decimals
+abbrev pub is_off_at : ℕ → ℕ → Option WholePoint → ℕ → DecimalPoint → Bool
+is_off_at wide finest origin m p = is_over wide finest (point_at origin m p)
+
+-- the text on the first of the points that is off the grid, once all are rounded to m decimals
+abbrev pub off_grid_text : ℕ → Option WholePoint → ℕ → Stated → List DecimalPoint → List ℕ
+off_grid_text wide origin m stated points =
+    option_map_or (off_grid_lines m stated) (find (is_off_at wide (finest_at origin m points) origin m) points) []
+
+-- the text on an input that is on no grid at m decimals
+abbrev pub grid_hint : Limits → Option WholePoint → ℕ → Stated → Input → Status → List ℕ
+grid_hint limits origin m stated input (Limit (Grid line)) = off_grid_text limits.grid origin m stated input.nodes.decimals
+grid_hint limits origin m stated input status = []
 
 abbrev pub IsHint : Limits → Stated → Options → Input → Option Numbering → Status → List ℕ → Type 0
-IsHint limits stated options input None status lines = lines ≡ grid_hint limits options.origin stated input status
+IsHint limits stated options input None status lines = lines ≡ grid_hint limits options.origin (unwrap_or options.decimals 0) stated input
+    status
 IsHint limits stated options input (Some by) status lines = IsHintBy limits options input by status lines

@@ -1,5 +1,5 @@
 -- Models whose coordinates are measured from an origin.
-use Rattle.std.specs.Prelude.{◌≡◌, ℕ, ◌+◌, min, map, List, Option, Some, None, Result, Ok, Err}
+use Rattle.std.specs.Prelude.{◌≡◌, ◌≤◌, ℕ, ◌+◌, min, map, List, Option, Some, None, Result, Ok, Err}
 use Rattle.command_words.specs.declared.options.Options.{Options}
 use Rattle.grid_coords.specs.Choice.{most_decimals}
 use Rattle.grid_coords.specs.Origins.{most_near, origin_of}
@@ -21,7 +21,7 @@ use Rattle.run_steps.specs.declared.status.Status.TheVariants.{NoMemory}
 abbrev pub origin_in : Input → Option WholePoint
 origin_in input = origin_of input.nodes.decimals
 
--- the first number of decimals that is tried: the most that a coordinate has, and 35 where one has more; from an origin
+-- the most decimals that are tried: the most that a coordinate has, and 35 where one has more; from an origin
 -- 17, or fewer where its coordinates have more than 17 digits with them
 abbrev pub most_from : Option WholePoint → ℕ → ℕ
 most_from None most = min 35 most
@@ -29,6 +29,32 @@ most_from (Some w) most = most_near w (min 17 most)
 
 abbrev pub most_tried : Input → ℕ
 most_tried input = most_from (origin_in input) (most_decimals input.nodes.decimals)
+
+-- the first number of decimals that is tried, of at most `most`: the one that is given, where there is one
+abbrev pub first_from : Option ℕ → ℕ → ℕ
+first_from None most = most
+first_from (Some given) most = min given most
+
+abbrev pub first_tried : Options → Input → ℕ
+first_tried options input = first_from options.decimals (most_tried input)
+
+-- the last one: 0, or the first where a number is given
+abbrev pub last_from : Option ℕ → ℕ → ℕ
+last_from None first = 0
+last_from (Some given) first = first
+
+abbrev pub last_tried : Options → Input → ℕ
+last_tried options input = last_from options.decimals (first_tried options input)
+
+-- m decimals are among those that are tried: of those that the options give, and of no others, where they give any
+pub record IsTried (options : Options) (input : Input) (m : ℕ) : Type 0 where
+  pub most : m ≤ first_tried options input
+  pub least : last_tried options input ≤ m
+
+-- n decimals in place of m: as many where a number is given, and else as many or fewer
+abbrev pub IsInPlaceOf : Option ℕ → ℕ → ℕ → Type 0
+IsInPlaceOf None m n = n ≤ m
+IsInPlaceOf (Some given) m n = n ≡ m
 
 -- hole points and region points from an origin, with six decimals more than any that is tried
 abbrev pub complex_from : Option WholePoint → ℕ → Plc → Plc

@@ -14,9 +14,9 @@ use Rattle.run_steps.specs.declared.status.Status.TheVariants.{Usage, Missing, B
 abbrev pub tetfit_name : List ℕ
 tetfit_name = codes "tetfit: "
 
--- what would help where a limit is passed
+-- what would help where a limit is passed; for a point off the grid the lines on it tell that
 abbrev pub help_of_limit : LimitKind → List ℕ
-help_of_limit (Grid line) = codes "tetfit: no coordinate may be over 536870912 from the middle: scale the model down\n"
+help_of_limit (Grid line) = []
 help_of_limit (Corners line count most) = codes "tetfit: cut the facet in parts\n"
 help_of_limit what = codes "tetfit: cut the model in parts\n"
 

@@ -2,7 +2,7 @@
 use Rattle.std.specs.Prelude.{◌≡◌, ◌≤◌, ◌⊎◌, ℕ, true, false, List, Option, Some, None, Result, Ok, Err}
 use Rattle.std.specs.Option.{option_map}
 use Rattle.command_words.specs.declared.options.Options.{Options}
-use Rattle.tetfit_run.specs.Measured.{most_tried, tried, with_origin}
+use Rattle.tetfit_run.specs.Measured.{IsInPlaceOf, IsTried, tried, with_origin}
 use Rattle.tetfit_run.specs.Models.{ModelAnswer}
 use Rattle.tetfit_run.specs.Hints.{moved_text}
 use Rattle.tetfit_run.specs.Opening.{is_empty}
@@ -55,11 +55,12 @@ abbrev pub outputs_at : ℕ → List ℕ → Outputs → Outputs
 outputs_at decimals more outputs = record outputs { report = option_map (fitted_told decimals more) outputs.report }
 
 -- The outputs in the end, with coordinates rounded to n decimals: those of the mesh that is fitted, at m decimals; or,
--- where tetrahedra are bounded, those of a mesh with points behind those of the model, at so many or fewer
+-- where tetrahedra are bounded, those of a mesh with points behind those of the model, at n in place of m
 abbrev pub IsFinalBy : Option Goal → Options → Input → ℕ → Outputs → ℕ → Outputs → Type 0
 IsFinalBy None options input m made n final = (n ≡ m) × (final ≡ made)
 IsFinalBy (Some goal) options input m made n final =
-    (n ≤ m) × RefinedMeshed goal fit_limits (at_decimals n options) (tried (at_decimals n options) input) (Ok final)
+    IsInPlaceOf options.decimals m n
+    × RefinedMeshed goal fit_limits (at_decimals n options) (tried (at_decimals n options) input) (Ok final)
 
 -- the input is fitted at so many decimals, where its mesh has no tetrahedron
 pub record IsEmptyAt (options : Options) (input : Input) (decimals : ℕ) : Type 0 where
@@ -81,7 +82,7 @@ pub record IsMeshedTo (wanted : Wanted) (input : Input) (outputs : Outputs) : Ty
 -- at some number of decimals that is tried the grid refuses the input
 pub record IsOffSomeGrid (options : Options) (input : Input) : Type 0 where
   pub decimals : ℕ
-  pub within : decimals ≤ most_tried input
+  pub within : IsTried options input decimals
   pub refused : IsRefusedByGrid fit_limits options input decimals
 
 -- The input is refused, and at some number of decimals by the grid. The outputs are those of a mesh with points behind those of the
@@ -91,7 +92,7 @@ pub record IsConformedAt (goal : Goal) (options : Options) (input : Input) (n : 
   pub status : Status
   pub fitted : IsFitted fit_limits options input decimals (Err status)
   pub off_grid : IsOffSomeGrid options input
-  pub within : n ≤ most_tried input
+  pub within : IsTried options input n
   pub made : ConformingMeshed goal fit_limits (at_decimals n options) (tried (at_decimals n options) input) final
   pub some : is_empty final ≡ false
 

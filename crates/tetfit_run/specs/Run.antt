@@ -3,7 +3,7 @@ use Rattle.std.specs.Prelude.{◌≡◌, ◌≢◌, ◌≤◌, ◌⊎◌, ℕ, I
 use Rattle.command_words.specs.declared.options.Options.{Options}
 use Rattle.tetfit_run.specs.Keyword.{TellsKeyword}
 use Rattle.tetfit_run.specs.Hints.{IsHint, IsHintBy, flat_text, moved_text, off_grid_text}
-use Rattle.tetfit_run.specs.Measured.{BoundTried, origin_in, tried, with_origin}
+use Rattle.tetfit_run.specs.Measured.{BoundTried, IsInPlaceOf, origin_in, tried, with_origin}
 use Rattle.grid_coords.specs.declared.origin.WholePoint.{WholePoint}
 use Rattle.tetfit_run.specs.Models.{IsStatedBy, ModelAnswer, named_surface}
 use Rattle.tetfit_run.specs.Trying.{IsFitted, IsNumbered, at_decimals}
@@ -82,10 +82,10 @@ abbrev pub options_from : Option WholePoint → List (List ℕ) → Options
 options_from origin words = record (fit_options words) { origin = origin }
 
 -- The outputs in the end, with coordinates rounded to n decimals: those of the mesh that is fitted, at m decimals, or,
--- where tetrahedra are bounded, those of one mesh of the model with points behind its own, at so many or fewer
+-- where tetrahedra are bounded, those of one mesh of the model with points behind its own, at n in place of m
 abbrev pub IsFinalMesh : Option Goal → Options → List (List ℕ) → FolderSeen → ℕ → Outputs → ℕ → Outputs → Type 0
 IsFinalMesh None options words folder m made n final = (n ≡ m) × (final ≡ made)
-IsFinalMesh (Some goal) options words folder m made n final = (n ≤ m)
+IsFinalMesh (Some goal) options words folder m made n final = IsInPlaceOf options.decimals m n
     × IsRefinedMeshBy goal fit_limits (at_decimals n options) (fit_fault words ≡ None)
     (λ at. (input : Input) × IsTriedOf (at_decimals n options) words folder input at) (HasBareMesh (at_decimals n options)) final
 
@@ -174,8 +174,8 @@ abbrev pub IsFitNumbering : List (List ℕ) → FolderSeen → List ℕ → Stat
 IsFitNumbering words = IsNumberingOf (fit_name words) (fit_options words)
 
 -- The lines that follow a message that prints no points. For an `.off` file that is not in its grammar, that its first field is a
--- keyword that is not read, where it is one. For a model off the grid, the first point that is off it with coordinates
--- rounded to whole numbers is reported: its place in the file, by the line, or by the facet of a binary file, and its coordinates. For
+-- keyword that is not read, where it is one. For a model off the grid, the first point that is off it at the last decimals that are
+-- tried is reported: its place in the file, by the line, or by the facet of a binary file, and its coordinates. For
 -- points in one plane, that they are, or that the file has none, and that they were rounded, where they were. For a mesh without a
 -- tetrahedron, which side is open, that each side is shared, or that hole points carve all of it
 abbrev pub TellsUnnamed : List ℕ → Options → FolderSeen → List ℕ → Status → Type 0
@@ -183,7 +183,8 @@ TellsUnnamed name options folder hint (BadText file fault) = TellsKeyword (named
 TellsUnnamed name options folder hint (Limit (Grid line)) =
     (input : Input) × ModelAnswer fit_limits folder name options (Ok input)
     × (stated : Stated) × IsStatedBy folder name options stated
-    × (hint ≡ off_grid_text fit_limits.grid (origin_in input) stated input.nodes.decimals)
+    × (m : ℕ) × IsFitted fit_limits (with_origin input options) input m (Err (Limit (Grid line)))
+    × (hint ≡ off_grid_text fit_limits.grid (origin_in input) m stated input.nodes.decimals)
 TellsUnnamed name options folder hint Flat =
     (input : Input) × ModelAnswer fit_limits folder name options (Ok input)
     × (m : ℕ) × IsFitted fit_limits (with_origin input options) input m (Err Flat)

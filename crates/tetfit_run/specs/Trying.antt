@@ -1,4 +1,4 @@
--- The decimals at which an input is tried, from the most that it has downward.
+-- The decimals at which an input is tried: from the most that it has downward, or a number that is given.
 use Rattle.std.specs.Prelude.{◌≡◌, ◌≤◌, ◌<◌, ℕ, Bool, true, false, Option, Some, None, Result, Ok, Err, IfErr}
 use Rattle.command_words.specs.declared.options.Options.{Options}
 use Rattle.node_files.specs.declared.limits.Limits.{Limits}
@@ -12,7 +12,7 @@ use Rattle.run_steps.specs.declared.outputs.Outputs.{Outputs}
 use Rattle.run_steps.specs.declared.status.LimitKind.TheVariants.{Grid}
 use Rattle.run_steps.specs.declared.status.Status.{Status}
 use Rattle.run_steps.specs.declared.status.Status.TheVariants.{Limit, GridEnd}
-use Rattle.tetfit_run.specs.Measured.{BoundTried, MeshedTried, most_tried}
+use Rattle.tetfit_run.specs.Measured.{BoundTried, IsTried, MeshedTried, first_tried, last_tried, most_tried}
 use Rattle.tetfit_run.specs.Trial.{AreInTriedRange}
 use Rattle.tetfit_run.specs.declared.fitting.Refused.{Refused}
 use Rattle.tetfit_run.specs.declared.trying.Unfitted.{Unfitted}
@@ -45,12 +45,13 @@ pub record IsRefusedByGrid (limits : Limits) (options : Options) (input : Input)
   pub of_grid : is_of_grid status ≡ true
   pub answer : AnswerAt limits options input m (Err status)
 
--- The answer at the greatest number of decimals at which the grid does not refuse; where it refuses at each number of them, the answer at 0
+-- The answer at the greatest number of decimals at which the grid does not refuse, of those that are tried; where it refuses at each, the
+-- answer at the last
 pub record IsFitted (limits : Limits) (options : Options) (input : Input) (m : ℕ) (made : Result Outputs Status) : Type 0 where
-  pub within : m ≤ most_tried input
+  pub within : IsTried options input m
   pub answer : AnswerAt limits options input m made
-  pub finer : (n : ℕ) → m < n → n ≤ most_tried input → IsRefusedByGrid limits options input n
-  pub last : IfErr made (λ status. is_of_grid status ≡ true → m ≡ 0)
+  pub finer : (n : ℕ) → m < n → n ≤ first_tried options input → IsRefusedByGrid limits options input n
+  pub last : IfErr made (λ status. is_of_grid status ≡ true → m ≡ last_tried options input)
 
 -- what the outputs of a bound input answer
 abbrev pub MadeAnswer : Options → Bound → Result Outputs Status → Type 0

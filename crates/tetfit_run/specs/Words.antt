@@ -167,7 +167,7 @@ fit_goal words =
 abbrev pub is_own : List ℕ → Bool
 is_own word = is_of_goal word || is_format word
 
--- ---- the other words are those of the program that meshes exact texts, but for four things, which this program does not do
+-- ---- the other words are those of the program that meshes exact texts, but for three things, which this program does not do
 
 -- the word is of that grammar
 abbrev pub is_plain : List ℕ → Bool
@@ -205,19 +205,19 @@ grammar_words words = map in_small (plain_words words)
 abbrev pub fit_name : List (List ℕ) → List ℕ
 fit_name words = name_of words
 
--- weights, a check, decimals and the sample
+-- weights, a check and the sample
 abbrev pub asks_elsewhere : Options → Bool
-asks_elsewhere options = (options.weighted || options.check) || (is_some options.decimals || is_some options.sample)
+asks_elsewhere options = (options.weighted || options.check) || is_some options.sample
 
 -- a letter that asks for weights, 119, or for a check, 114 and 67
 abbrev pub is_letter_elsewhere : ℕ → Bool
 is_letter_elsewhere byte = byte == 119 || (byte == 114 || byte == 67)
 
--- the place in a word, from 1, at which it asks for weights, a check, decimals or the sample
+-- the place in a word, from 1, at which it asks for weights, a check or the sample
 abbrev pub elsewhere_in : List ℕ → Option ℕ
 elsewhere_in word =
     if is_cluster word then option_map (λ i. i + 1) (position is_letter_elsewhere word) else
-    if starts_with nat_eq word (codes "--decimals=") || starts_with nat_eq word (codes "--sample=") then Some 3 else None
+    if starts_with nat_eq word (codes "--sample=") then Some 3 else None
 
 -- the first such word and the place in it, where the first of these words has this number
 abbrev pub first_elsewhere : ℕ → List (List ℕ) → Option (ℕ × ℕ)
@@ -254,7 +254,7 @@ abbrev pub fit_wanted : List (List ℕ) → Wanted
 fit_wanted words = record { name = fit_name words; options = fit_options words; goal = fit_goal words }
 
 -- a fault of the grammar, told by its word and the place in it; in place of one behind the last word, the first word that asks for one of
--- the four
+-- the three
 abbrev pub named_fault : List (List ℕ) → ℕ × ℕ → ℕ × ℕ
 named_fault words fault = if nat_lt (length words) fault.0 then unwrap_or (first_elsewhere 1 words) fault else fault
 
@@ -263,7 +263,7 @@ abbrev pub told_fault : List (List ℕ) → WordsFault → WordsFault
 told_fault words (Usage word place) = let fault = named_fault words (word, place) in Usage fault.0 fault.1
 told_fault words NoMemory = NoMemory
 
--- the first fault of plain words: one of their grammar, or else the first word that asks for one of the four
+-- the first fault of plain words: one of their grammar, or else the first word that asks for one of the three
 abbrev pub plain_fault : List (List ℕ) → Option (ℕ × ℕ)
 plain_fault words =
     option_or (option_map (named_fault words) (words_fault_within most_halvings words))
@@ -297,11 +297,10 @@ pub record IsRefinable (wanted : Wanted) : Type 0 where
   pub fine : IfSome wanted.goal IsFineGoal
   pub complex : IfSome wanted.goal (λ goal. wanted.options.piecewise ≡ true)
 
--- the words ask neither for weights nor for a check, and give neither decimals nor a sample
+-- the words ask neither for weights nor for a check, and give no sample
 pub record IsPlainRequest (options : Options) : Type 0 where
   pub weighted : options.weighted ≡ false
   pub check : options.check ≡ false
-  pub decimals : options.decimals ≡ None
   pub sample : options.sample ≡ None
 
 -- ---- what is asked for

@@ -9,7 +9,7 @@ ghost use Rattle.tetfit_run.specs.Trying.{AreTriable, IsRefused};
 ghost use Rattle.tetfit_run.specs.Words.{IsRefinable};
 
 use crate::fitting::{Fitted, Refused, is_of_grid};
-use crate::grids::{most_tried, refined_decimals};
+use crate::grids::{first_tried, refined_decimals};
 use crate::opening::is_empty;
 use crate::refined::conformed_at;
 use crate::wanted::Wanted;
@@ -27,16 +27,17 @@ fn is_off_some_grid(options: &Options, input: &Input, refused: &Refused) -> bool
     requires refused { IsRefused fit_limits options.now input.now refused.now }
     ensures { result ≡ true → IsOffSomeGrid options.now input.now }
 {
-    let most = most_tried(options.origin, input.nodes.decimals.as_slice());
-    if refused.decimals < most {
+    let first = first_tried(options, input.nodes.decimals.as_slice());
+    if refused.decimals < first {
         return true;
     }
     is_of_grid(&refused.end.status)
 }
 
 /// The outputs of a mesh with a tetrahedron, at the decimals that leave halvings of the grid to
-/// added points, of an input that is refused, and at some number of decimals by the grid: points on
-/// its segments are the first that are added. There are none where tetrahedra are not bounded.
+/// added points, or that are given, of an input that is refused, and at some number of decimals by
+/// the grid: points on its segments are the first that are added. There are none where tetrahedra
+/// are not bounded.
 pub(crate) fn conformed_outputs<W: Watch>(
     alloc: Global,
     wanted: &Wanted,
@@ -61,8 +62,8 @@ pub(crate) fn conformed_outputs<W: Watch>(
         return Ok(None);
     }
     let points = input.nodes.decimals.as_slice();
-    let most = most_tried(options.origin, points);
-    let decimals = refined_decimals(options.origin, points, most);
+    let first = first_tried(options, points);
+    let decimals = refined_decimals(options, points, first);
     match conformed_at(alloc, options, input, decimals, goal, watch)? {
         Some(outputs) if !is_empty(&outputs) => Ok(Some(Fitted { decimals, outputs })),
         _ => Ok(None),

@@ -1,13 +1,13 @@
 //! The search for the finest rounding of a model that can be meshed, from the most decimals
-//! downward.
+//! downward, or at a number that is given.
 
-ghost use Rattle.std.specs.Prelude.{◌≡◌, ◌<◌, true, false, IsTrue, IfErr, IfOk, Ok};
+ghost use Rattle.std.specs.Prelude.{◌≡◌, ◌≤◌, ◌<◌, true, false, IsTrue, IfErr, IfOk, Ok};
 ghost use Rattle.node_files.specs.Limits.{AreIndexable};
 ghost use Rattle.run_steps.specs.Reading.{IsSound};
 ghost use Rattle.tetfit_run.specs.Measured.{origin_in};
 ghost use Rattle.tetfit_run.specs.Trying.{is_of_grid, AreTriable, IsFitted, IsRefused};
 
-use crate::grids::{most_tried, next_tried};
+use crate::grids::{first_tried, last_tried, next_tried};
 use crate::trying::{Unfitted, outputs_at};
 use command_words::Options;
 use node_files::Limits;
@@ -42,18 +42,18 @@ pub(crate) fn is_of_grid(status: &Status) -> bool
     }
 }
 
-/// Whether fewer decimals are tried after this refusal.
-fn goes_on(decimals: u32, status: &Status) -> bool
-    ensures on { IsTrue result → (0 < decimals) × (is_of_grid status.now ≡ true) }
-    ensures off { result ≡ false → is_of_grid status.now ≡ true → decimals ≡ 0 }
+/// Whether fewer decimals are tried after this refusal, where `last` is the last number.
+fn goes_on(last: u32, decimals: u32, status: &Status) -> bool
+    ensures on { IsTrue result → (last < decimals) × (is_of_grid status.now ≡ true) }
+    ensures off { result ≡ false → is_of_grid status.now ≡ true → decimals ≤ last }
 {
-    decimals > 0 && is_of_grid(status)
+    decimals > last && is_of_grid(status)
 }
 
 /// The outputs of the input at the greatest number of decimals at which the grid does not refuse
-/// it, of those from the first one that is tried (`most_tried`) down to 0. It
-/// refuses as the steps `bind_input` and `mesh_outputs` do at that number, or at 0 where the grid
-/// refuses at each.
+/// it, of those from the first one that is tried (`first_tried`) down to the last (`last_tried`):
+/// the number that the options give, where they give one. It refuses as the steps `bind_input` and
+/// `mesh_outputs` do at that number, or at the last where the grid refuses at each.
 pub fn fit_input(
     alloc: Global,
     limits: Limits,
@@ -69,12 +69,13 @@ pub fn fit_input(
     ensures refused { IfErr result (IsRefused limits options.now input.now) }
 {
     let points = input.nodes.decimals.as_slice();
-    let mut decimals = most_tried(options.origin, points);
+    let mut decimals = first_tried(options, points);
+    let last = last_tried(options, decimals);
     loop {
         match outputs_at(alloc, limits, options, input, decimals) {
             Ok(outputs) => return Ok(Fitted { decimals, outputs }),
             Err(end) => {
-                if !goes_on(decimals, &end.status) {
+                if !goes_on(last, decimals, &end.status) {
                     return Err(Refused { decimals, end });
                 }
             }

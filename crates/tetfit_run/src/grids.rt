@@ -5,9 +5,10 @@ ghost use Rattle.std.specs.List.{list_any};
 ghost use Rattle.grid_coords.specs.Choice.{is_over, most_decimals};
 ghost use Rattle.grid_coords.specs.Origins.{IsNear, IsSmallPoint};
 ghost use Rattle.tetfit_run.specs.Grids.{point_at, AreOffBetween, IsOffRounded};
-ghost use Rattle.tetfit_run.specs.Hints.{is_off_whole};
-ghost use Rattle.tetfit_run.specs.Measured.{most_from};
+ghost use Rattle.tetfit_run.specs.Hints.{finest_at, is_off_at};
+ghost use Rattle.tetfit_run.specs.Measured.{first_from, last_from, most_from, IsInPlaceOf};
 
+use command_words::Options;
 use grid_coords::{DecimalPoint, WholePoint, decimals_of, most_decimals, most_near, size_of};
 use node_files::{measured_from, rounded_point};
 
@@ -18,9 +19,8 @@ const MOST: u32 = 35;
 /// The most decimals of coordinates that are measured from an origin.
 const MOST_FROM: u32 = 17;
 
-/// The first number of decimals that is tried: the most that a coordinate has, or 35 where one has
-/// more; from an origin at most 17, and so many fewer that its coordinates have at most 17 digits
-/// with them.
+/// The most decimals that are tried: the most that a coordinate has, or 35 where one has more; from
+/// an origin at most 17, and so many fewer that its coordinates have at most 17 digits with them.
 pub(crate) fn most_tried(origin: Option<WholePoint>, points: &[DecimalPoint]) -> u32
     requires { IfSome origin IsSmallPoint }
     ensures value { result ≡ most_from origin (most_decimals points.now) }
@@ -31,6 +31,32 @@ pub(crate) fn most_tried(origin: Option<WholePoint>, points: &[DecimalPoint]) ->
     match origin {
         None => MOST.min(most),
         Some(w) => most_near(w, MOST_FROM.min(most)),
+    }
+}
+
+/// The first number of decimals that is tried: the one that is given, or `most_tried` where none is
+/// or that is fewer.
+pub(crate) fn first_tried(options: &Options, points: &[DecimalPoint]) -> u32
+    requires { IfSome options.now.origin IsSmallPoint }
+    ensures value { result ≡ first_from options.now.decimals
+        (most_from options.now.origin (most_decimals points.now)) }
+    ensures near { IfSome options.now.origin (IsNear result) }
+{
+    let most = most_tried(options.origin, points);
+    match options.decimals {
+        None => most,
+        Some(given) => given.min(most),
+    }
+}
+
+/// The last number of decimals that is tried, where this is the first: 0, or the first where a
+/// number is given.
+pub(crate) fn last_tried(options: &Options, first: u32) -> u32
+    ensures { result ≡ last_from options.now.decimals first }
+{
+    match options.decimals {
+        None => 0,
+        Some(_) => first,
     }
 }
 
@@ -58,14 +84,22 @@ pub(crate) fn next_tried(
 /// halvings of the grid are left to added points.
 const FINE: u64 = 1 << 21;
 
-/// The number of decimals at which the mesh is refined, of those up to `decimals`: the greatest at
-/// which no coordinate is over 2^21 units, so that the grid has halvings left for added points; or
-/// `decimals`, where there is none.
-pub(crate) fn refined_decimals(
-    origin: Option<WholePoint>,
-    points: &[DecimalPoint],
-    decimals: u32,
-) -> u32
+/// The number of decimals at which the mesh is refined, in place of `decimals`: as many where a
+/// number is given, and else the greatest that leaves halvings of the grid to added points.
+pub(crate) fn refined_decimals(options: &Options, points: &[DecimalPoint], decimals: u32) -> u32
+    requires { IfSome options.now.origin (IsNear decimals) }
+    ensures few { result ≤ decimals }
+    ensures given { IsInPlaceOf options.now.decimals decimals result }
+{
+    match options.decimals {
+        None => coarse_decimals(options.origin, points, decimals),
+        Some(_) => decimals,
+    }
+}
+
+/// Of the numbers of decimals up to `decimals` the greatest at which no coordinate is over 2^21
+/// units, so that the grid has halvings left for added points; or `decimals`, where there is none.
+fn coarse_decimals(origin: Option<WholePoint>, points: &[DecimalPoint], decimals: u32) -> u32
     requires { IfSome origin (IsNear decimals) }
     ensures { result ≤ decimals }
 {
@@ -147,29 +181,66 @@ fn is_over(wide: u64, decimals: u32, p: &DecimalPoint) -> bool
     size_of(wide, decimals, p).is_none()
 }
 
-/// Whether a coordinate of the point is over `wide` units from the origin where coordinates are
-/// rounded to whole numbers.
-fn is_off_whole(wide: u64, origin: Option<WholePoint>, p: &DecimalPoint) -> bool
-    requires { IfSome origin (IsNear 0) }
-    ensures { result ≡ is_off_whole wide origin p.now }
+/// The most decimals of the points once they are rounded to `decimals`, and measured from the
+/// origin.
+fn finest_at(origin: Option<WholePoint>, decimals: u32, points: &[DecimalPoint]) -> u32
+    requires { IfSome origin (IsNear decimals) }
+    ensures { result ≡ finest_at origin decimals points.now }
 {
-    is_over(wide, 0, &point_at(origin, 0, p))
+    let mut most = 0;
+    for p in points {
+        most = decimals_of(&point_at(origin, decimals, p)).max(most);
+    }
+    most
 }
 
-/// The first point with a coordinate over `wide` units from the origin where coordinates are
-/// rounded to whole numbers.
-pub(crate) fn first_off(
+/// Whether a coordinate of the point is over `wide` units of 10^-`finest` from the origin where
+/// coordinates are rounded to `decimals` decimals.
+fn is_off_at(
     wide: u64,
+    finest: u32,
     origin: Option<WholePoint>,
+    decimals: u32,
+    p: &DecimalPoint,
+) -> bool
+    requires { IfSome origin (IsNear decimals) }
+    ensures { result ≡ is_off_at wide finest origin decimals p.now }
+{
+    is_over(wide, finest, &point_at(origin, decimals, p))
+}
+
+/// The first point with a coordinate over `wide` units of 10^-`finest` from the origin where
+/// coordinates are rounded to `decimals` decimals.
+fn first_over(
+    wide: u64,
+    finest: u32,
+    origin: Option<WholePoint>,
+    decimals: u32,
     points: &[DecimalPoint],
 ) -> Option<&DecimalPoint>
-    requires { IfSome origin (IsNear 0) }
-    ensures { option_copied result ≡ find (is_off_whole wide origin) points.now }
+    requires { IfSome origin (IsNear decimals) }
+    ensures { option_copied result ≡ find (is_off_at wide finest origin decimals) points.now }
 {
     for p in points {
-        if is_off_whole(wide, origin, p) {
+        if is_off_at(wide, finest, origin, decimals, p) {
             return Some(p);
         }
     }
     None
+}
+
+/// The first point that is off the grid of coordinates up to `wide` units, once all points are
+/// rounded to `decimals` decimals, and measured from the origin.
+pub(crate) fn first_off(
+    wide: u64,
+    origin: Option<WholePoint>,
+    decimals: u32,
+    points: &[DecimalPoint],
+) -> Option<&DecimalPoint>
+    requires { IfSome origin (IsNear decimals) }
+    ensures { option_copied result
+        ≡ find (is_off_at wide (finest_at origin decimals points.now) origin decimals) points.now }
+{
+    let finest = finest_at(origin, decimals, points);
+    first_over(wide, finest, origin, decimals, points)
 }

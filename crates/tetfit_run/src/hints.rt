@@ -285,26 +285,27 @@ fn hint_by(alloc: Global, trial: &Trial, by: &Numbering, status: &Status) -> Res
     }
 }
 
-/// The place and coordinates of the first point that is off every grid.
+/// The lines on the first point that is off every grid at `decimals` decimals.
 fn grid_hint(
     alloc: Global,
     limits: Limits,
     origin: Option<WholePoint>,
+    decimals: u32,
     model: &Model,
     status: &Status,
 ) -> Result<Bytes, NoMemory>
-    requires { IfSome origin (IsNear 0) }
+    requires { IfSome origin (IsNear decimals) }
     ensures { IfOk result (λ lines. lines
-        ≡ grid_hint limits origin model.now.stated model.now.input status.now) }
+        ≡ grid_hint limits origin decimals model.now.stated model.now.input status.now) }
 {
     match status {
         Status::Limit {
             what: LimitKind::Grid { line: _ },
-        } => off_grid_text(
-            alloc,
-            model.stated,
-            first_off(limits.grid, origin, model.input.nodes.decimals.as_slice()),
-        ),
+        } => {
+            let points = model.input.nodes.decimals.as_slice();
+            let found = first_off(limits.grid, origin, decimals, points);
+            off_grid_text(alloc, decimals, model.stated, found)
+        }
         _ => Ok(Bytes::new(alloc)),
     }
 }
@@ -333,7 +334,17 @@ pub fn hint_of(
         model.now.input refused.now.end.numbering refused.now.end.status) }
 {
     match &refused.end.numbering {
-        None => grid_hint(alloc, limits, options.origin, model, &refused.end.status),
+        None => {
+            let status = &refused.end.status;
+            grid_hint(
+                alloc,
+                limits,
+                options.origin,
+                refused.decimals,
+                model,
+                status,
+            )
+        }
         Some(by) => {
             let options = at_decimals(alloc, options, refused.decimals)?;
             let trial = Trial::new(limits, &options, &model.input);

@@ -24,14 +24,12 @@ const SUMMARY_FAILED: &[u8] = b"tetfit: summary: write failed\n";
 /// The program's name, as a line begins.
 const NAME: &[u8] = b"tetfit: ";
 
-/// What would help where a limit is passed.
+/// What would help where a limit is passed; for a point off the grid the lines on it tell that.
 fn help_of_limit(what: &LimitKind) -> &'static [u8]
     ensures { result.now ≡ help_of_limit what.now }
 {
     match what {
-        LimitKind::Grid { line: _ } => {
-            b"tetfit: no coordinate may be over 536870912 from the middle: scale the model down\n"
-        }
+        LimitKind::Grid { line: _ } => b"",
         LimitKind::Corners {
             line: _,
             count: _,

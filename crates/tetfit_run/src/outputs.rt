@@ -6,7 +6,7 @@ ghost use Rattle.command_words.specs.declared.fault.WordsFault.TheVariants.{Usag
 ghost use Rattle.refining.specs.Goals.{IsFineGoal};
 ghost use Rattle.refining.specs.Outputs.{RefinedMeshed};
 ghost use Rattle.grid_coords.specs.Origins.{IsNear};
-ghost use Rattle.tetfit_run.specs.Measured.{most_tried, origin_in, tried};
+ghost use Rattle.tetfit_run.specs.Measured.{IsInPlaceOf, most_tried, origin_in, tried};
 ghost use Rattle.tetfit_run.specs.Trial.{AreInTriedRange};
 ghost use Rattle.tetfit_run.specs.Trying.{AreTriable, IsFitted, IsRefused, at_decimals};
 ghost use Rattle.tetfit_run.specs.Words.{IsPlainRequest, IsRefinable, fit_fault, others, request_of};
@@ -94,7 +94,7 @@ fn outputs_at(fitted: Fitted, more: Bytes) -> Outputs
 }
 
 /// The outputs of the refined mesh at so many or fewer decimals: those that leave halvings of the
-/// grid to added points, or else all.
+/// grid to added points, or else all, and all where a number is given.
 fn refined_within<W: Watch>(
     alloc: Global,
     options: &Options,
@@ -107,14 +107,15 @@ fn refined_within<W: Watch>(
     requires ranges { (m : ℕ) → m ≤ decimals → AreInTriedRange (at_decimals m options.now) }
     requires complex { options.now.piecewise ≡ true }
     requires fine { IsFineGoal goal.now }
-    ensures few { IfOk result (λ final. final.decimals ≤ decimals) }
+    ensures few { IfOk result
+        (λ final. IsInPlaceOf options.now.decimals decimals final.decimals) }
     ensures outputs { IfOk result (λ final. RefinedMeshed goal.now fit_limits
         (at_decimals final.decimals options.now)
         (tried (at_decimals final.decimals options.now) input.now) (Ok final.outputs)) }
     ensures shown { SeesRounds W.shown watch.old watch.new }
 {
     let points = input.nodes.decimals.as_slice();
-    let fine = refined_decimals(options.origin, points, decimals);
+    let fine = refined_decimals(options, points, decimals);
     match refined_at(alloc, options, input, fine, goal, watch) {
         Ok(outputs) => Ok(Fitted {
             decimals: fine,
@@ -140,7 +141,6 @@ fn final_outputs<W: Watch>(
     requires ranges { (m : ℕ) → m ≤ fitted.decimals
         → AreInTriedRange (at_decimals m wanted.now.options) }
     requires refinable { IsRefinable wanted.now }
-    ensures few { IfOk result (λ final. final.decimals ≤ fitted.decimals) }
     ensures outputs { IfOk result (λ final. IsFinalBy wanted.now.goal wanted.now.options
         input.now fitted.decimals fitted.outputs final.decimals final.outputs) }
     ensures shown { SeesRounds W.shown watch.old watch.new }

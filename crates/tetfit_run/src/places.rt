@@ -4,7 +4,7 @@ ghost use Rattle.std.specs.Prelude.{◌≡◌, ◌++◌, [], drop, slice_get, op
 ghost use Rattle.std.specs.Option.{option_map_or};
 ghost use Rattle.tetfit_run.specs.Apart.{file_point};
 ghost use Rattle.tetfit_run.specs.Hints.{at_line, at_text, corner_text, corners_text, front_of, front_text, has_text, number_text};
-ghost use Rattle.tetfit_run.specs.Hints.{off_grid_lines, part_line, place_text, point_line, refusal_line};
+ghost use Rattle.tetfit_run.specs.Hints.{help_of_grid, off_grid_lines, part_line, place_text, point_line, point_lines, refusal_line};
 
 use crate::model::Stated;
 use grid_coords::DecimalPoint;
@@ -189,26 +189,53 @@ fn append_point(text: &mut Bytes, stated: Stated, p: &DecimalPoint) -> Result<()
     append_at_line(text, p)
 }
 
-/// Appends the lines on a point off the grid.
-fn append_off_grid(text: &mut Bytes, stated: Stated, p: &DecimalPoint) -> Result<(), NoMemory>
-    ensures { OnOk result (text.new ≡ text.old ++ off_grid_lines stated p.now) }
+/// Appends the line on a point off the grid, and that on its coordinates.
+fn append_lines(text: &mut Bytes, stated: Stated, p: &DecimalPoint) -> Result<(), NoMemory>
+    ensures { OnOk result (text.new ≡ text.old ++ point_lines stated p.now) }
 {
     append_refusal(text, stated, p.line)?;
     append_point(text, stated, p)
 }
 
-/// The place of a point off the grid in its file, and its coordinates; nothing without a point.
+/// What would help where a point is off the grid at `decimals` decimals.
+fn help_of_grid(decimals: u32) -> &'static [u8]
+    ensures { result.now ≡ help_of_grid decimals }
+{
+    if decimals == 0 {
+        b"tetfit: no coordinate may be over 536870912 from the middle: scale the model down\n"
+    } else {
+        b"tetfit: no coordinate may be over 536870912 units of the last decimal from the middle: \
+          give fewer decimals\n"
+    }
+}
+
+/// Appends the lines on a point off the grid at `decimals` decimals.
+fn append_off_grid(
+    text: &mut Bytes,
+    decimals: u32,
+    stated: Stated,
+    p: &DecimalPoint,
+) -> Result<(), NoMemory>
+    ensures { OnOk result (text.new ≡ text.old ++ off_grid_lines decimals stated p.now) }
+{
+    append_lines(text, stated, p)?;
+    text.append(help_of_grid(decimals))
+}
+
+/// The place of a point off the grid in its file, its coordinates, and what would help; nothing
+/// without a point.
 pub(crate) fn off_grid_text(
     alloc: Global,
+    decimals: u32,
     stated: Stated,
     found: Option<&DecimalPoint>,
 ) -> Result<Bytes, NoMemory>
     ensures { IfOk result (λ made. made
-        ≡ option_map_or (off_grid_lines stated) (option_copied found.entry) []) }
+        ≡ option_map_or (off_grid_lines decimals stated) (option_copied found.entry) []) }
 {
     let mut text = Bytes::new(alloc);
     if let Some(p) = found {
-        append_off_grid(&mut text, stated, p)?;
+        append_off_grid(&mut text, decimals, stated, p)?;
     }
     Ok(text)
 }

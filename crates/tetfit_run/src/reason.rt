@@ -49,11 +49,9 @@ pub enum Reason {
     BesideCheck,
     /// The letters V, h, Y and k, which stand alone behind their hyphen.
     OwnWord,
-    /// The long word for decimals, which only the program for exact texts has.
-    Decimals,
     /// The long word for the sample, which only the program for exact texts has.
     Sample,
-    /// No number, or too great a one, behind S or `--halvings=`.
+    /// No number, or too great a one, behind S, `--decimals=` or `--halvings=`.
     Number,
     /// A hyphen alone.
     NoSwitch,
@@ -97,7 +95,6 @@ impl Reason {
             Reason::Check => b"a mesh is checked by -rC, a word of its own",
             Reason::BesideCheck => b"only -Q and a name go with -rC",
             Reason::OwnWord => b"this letter is a word of its own, with its hyphen",
-            Reason::Decimals => b"decimals are found here; tetgen takes their number",
             Reason::Sample => b"the sample is meshed by tetgen",
             Reason::Number => b"a number within its limit is wanted",
             Reason::NoSwitch => b"a switch is wanted behind the hyphen",
@@ -167,11 +164,9 @@ fn cluster_reason(word: &[u8], place: usize) -> Reason
 fn long_reason(word: &[u8]) -> Reason
     ensures { result ≡ long_reason word.now }
 {
-    if word.starts_with(DECIMALS) {
-        Reason::Decimals
-    } else if word.starts_with(SAMPLE) {
+    if word.starts_with(SAMPLE) {
         Reason::Sample
-    } else if word.starts_with(HALVINGS) {
+    } else if word.starts_with(DECIMALS) || word.starts_with(HALVINGS) {
         Reason::Number
     } else {
         Reason::LongWord

@@ -5,7 +5,7 @@ ghost use Rattle.command_words.specs.Meaning.{AreInRange};
 ghost use Rattle.command_words.specs.declared.fault.WordsFault.TheVariants.{Usage};
 ghost use Rattle.tetfit_run.specs.Words.{request_of, asks_check, is_check, asks_limits, asks_page, asks_stages, asks_version, elsewhere_in, first_elsewhere, asks_elsewhere, is_bounding, is_letter_elsewhere, is_of_goal, is_own, is_plain, is_shape, is_volume, keeps_boundary, named_fault, others, plain_fault, plain_options, plain_words, told_fault, IsPlainRequest};
 
-use crate::kinds::{BOUNDARY, DECIMALS, SAMPLE, SHAPE, VOLUME, is_cluster};
+use crate::kinds::{BOUNDARY, SAMPLE, SHAPE, VOLUME, is_cluster};
 use command_words::{Options, WordsFault, has_word, is_format, is_word, read_words_within};
 use std::alloc::Global;
 use tet_ports::{Name, NoMemory, Words};
@@ -174,7 +174,7 @@ fn first_letter_elsewhere(word: &[u8]) -> Option<usize>
     word.iter().position(|byte| is_letter_elsewhere(*byte))
 }
 
-/// The place in a word, from 1, at which it asks for weights, a check, decimals or the sample.
+/// The place in a word, from 1, at which it asks for weights, a check or the sample.
 fn elsewhere_in(word: &[u8]) -> Option<usize>
     ensures { result ≡ elsewhere_in word.now }
 {
@@ -182,14 +182,13 @@ fn elsewhere_in(word: &[u8]) -> Option<usize>
         let i = first_letter_elsewhere(word)?;
         return Some(i + 1);
     }
-    if word.starts_with(DECIMALS) || word.starts_with(SAMPLE) {
+    if word.starts_with(SAMPLE) {
         return Some(3);
     }
     None
 }
 
-/// The first word that asks for weights, a check, decimals or the sample, and the place in it, both
-/// from 1.
+/// The first word that asks for weights, a check or the sample, and the place in it, both from 1.
 fn first_elsewhere(words: &Words) -> Option<(usize, usize)>
     ensures { result ≡ first_elsewhere 1 words.now }
 {
@@ -201,15 +200,15 @@ fn first_elsewhere(words: &Words) -> Option<(usize, usize)>
     None
 }
 
-/// Whether the options ask for weights, a check, decimals or the sample.
+/// Whether the options ask for weights, a check or the sample.
 fn is_elsewhere(options: &Options) -> bool
     ensures { result ≡ asks_elsewhere options.now }
 {
-    options.weighted || options.check || (options.decimals.is_some() || options.sample.is_some())
+    options.weighted || options.check || options.sample.is_some()
 }
 
 /// The fault at this word and place, or, where it is behind the last word, that of the first word
-/// that asks for weights, a check, decimals or the sample.
+/// that asks for weights, a check or the sample.
 fn named_fault(words: &Words, word: usize, place: usize) -> (usize, usize)
     ensures { result ≡ named_fault words.now (word, place) }
 {
@@ -236,8 +235,8 @@ fn told_fault(words: &Words, fault: WordsFault) -> WordsFault
 /// The options that plain words ask for.
 ///
 /// `Usage` exactly where they are not in the grammar of `read_words_within`, with its first fault,
-/// or ask for weights, a check, decimals or the sample, with the first word that does and the place
-/// in it; the same word and place are given where the grammar's fault is a missing word.
+/// or ask for weights, a check or the sample, with the first word that does and the place in it;
+/// the same word and place are given where the grammar's fault is a missing word.
 pub(crate) fn read_options(alloc: Global, words: &Words) -> Result<Options, WordsFault>
     ensures understood { IfOk result (λ options. plain_fault words.now ≡ None) }
     ensures options { IfOk result (λ options. options ≡ plain_options words.now) }

@@ -97,6 +97,15 @@ tetfit: facet 1: coordinate off the grid\n\
 tetfit: facet 1 has (2000000000 0 0)\n\
 tetfit: no coordinate may be over 536870912 from the middle: scale the model down\n";
 
+/// Points that are on the grid with five decimals, and off it with six.
+const WIDE: &[u8] = b"4 3 0 0\n1 0 0 0\n2 2000.123456 0 0\n3 0 1 0\n4 0 0 1\n";
+
+const WIDE_TOLD: &[u8] = b"\
+tetfit: line 2: coordinate off the grid\n\
+tetfit: line 2 has (0 0 0)\n\
+tetfit: no coordinate may be over 536870912 units of the last decimal from the middle: \
+give fewer decimals\n";
+
 const CROSSED_TOLD: &[u8] = b"\
 tetfit: segments 1 2 and 3 4 cross\n\
 tetfit: points 1 (0 0 0) 2 (2.5 2.5 0)\n\
@@ -164,6 +173,13 @@ static TOLD: [Run<'static>; 13] = [
         held: &[(b"t.node", &[FAR])],
         words: &[b"t.node"],
         end: Refused(5, FAR_TOLD),
+        files: &[],
+    },
+    Run {
+        name: "off the grid with the decimals of a word",
+        held: &[(b"t.node", &[WIDE])],
+        words: &[b"--decimals=6", b"t.node"],
+        end: Refused(5, WIDE_TOLD),
         files: &[],
     },
     Run {
@@ -271,7 +287,7 @@ const MINUTE_NODE: &[u8] = b"4 3 0 0\n1 0 0 0\n\
       2 0.00000000000000000000000015 0 0\n\
       3 0 0.0000000000000000000000001 0\n4 0 0 0.0000000000000000000000001\n";
 
-static FITS: [Run<'static>; 8] = [
+static FITS: [Run<'static>; 10] = [
     Run {
         name: "many decimals",
         held: &[(b"t.node", &[TINY])],
@@ -290,6 +306,23 @@ static FITS: [Run<'static>; 8] = [
         name: "as it stands",
         held: &[(b"t.node", &[NODE])],
         words: &[b"t"],
+        end: Told(b"points 4 added 0 tetrahedra 1 faces 4 edges 6 decimals 1\n"),
+        files: &[(b"t.1.node", Some(NODE))],
+    },
+    Run {
+        name: "fewer decimals by a word",
+        held: &[(b"t.node", &[TINY])],
+        words: &[b"--decimals=0", b"t.node", b"--decimals=3"],
+        end: Told(
+            b"points 4 added 0 tetrahedra 1 faces 4 edges 6 decimals 3\n\
+              tetfit: rounding moved each coordinate by at most 0.0005\n",
+        ),
+        files: &[(b"t.1.node", Some(NODE))],
+    },
+    Run {
+        name: "more decimals by a word than the file has",
+        held: &[(b"t.node", &[NODE])],
+        words: &[b"--decimals=3", b"t"],
         end: Told(b"points 4 added 0 tetrahedra 1 faces 4 edges 6 decimals 1\n"),
         files: &[(b"t.1.node", Some(NODE))],
     },

@@ -68,12 +68,12 @@ static TOLD: [Run<'static>; 11] = [
         files: &[],
     },
     Run {
-        name: "a number of decimals",
+        name: "too many decimals",
         held: &[],
-        words: &[b"--decimals=3", b"x"],
+        words: &[b"--decimals=21", b"x"],
         end: Refused(
             1,
-            b"tetfit: --decimals=3: decimals are found here; tetgen takes their number\n",
+            b"tetfit: --decimals=21: a number within its limit is wanted\n",
         ),
         files: &[],
     },

@@ -1,15 +1,14 @@
-use Rattle.std.proofs.Common.{◌≡◌, ◌∙◌, List, Option, ap, arith}
-use Rattle.grid_coords.specs.Choice.{most_decimals}
-use Rattle.grid_coords.specs.declared.origin.WholePoint.{WholePoint}
-use Rattle.grid_coords.specs.declared.points.DecimalPoint.{DecimalPoint}
-use Rattle.tetfit_run.specs.Measured.{most_from, most_tried, origin_in}
+use Rattle.std.proofs.Common.{subst}
+use Rattle.tetfit_run.specs.Measured.{IsTried}
+use Rattle.tetfit_run.proofs.Measured.{first_is, in_place_among, tried_few}
 use Rattle.tetfit_run.proofs.conforming.conformed_outputs.Goals as goal
 
 pub conformed_at-requires-clause-ranges : goal.conformed_at-requires-clause-ranges
 conformed_at-requires-clause-ranges g c =
+    let options = c.args.wanted.now.options in
     let input = c.args.input.now in
-    let points = c.as_slice-points.result.now in
-    let is : c.most_tried-most.result ≡ most_tried input =
-    c.most_tried-most.ensures.value ∙ ap (λ (o : Option WholePoint). most_from o (most_decimals points)) c.requires.origin
-    ∙ ap (λ (ps : List DecimalPoint). most_from (origin_in input) (most_decimals ps)) c.as_slice-points.ensures in
-    c.requires.ranges c.refined_decimals-decimals.result (omega (arith, c.refined_decimals-decimals.ensures, is))
+    let first = c.first_tried-first.result in
+    let n = c.refined_decimals-decimals.result in
+    let is = first_is options input c.as_slice-points.result.now first c.requires.origin c.as_slice-points.ensures c.first_tried-first.ensures.value in
+    let among : IsTried options input n = in_place_among options input first n is c.refined_decimals-decimals.ensures.given in
+    c.requires.ranges n (tried_few options input n among)

@@ -1,5 +1,5 @@
 use Rattle.std.proofs.Common.{◌≤◌}
-use Rattle.tetfit_run.proofs.grids.refined_decimals.Given as goal
+use Rattle.tetfit_run.proofs.grids.coarse_decimals.Given as goal
 
 abbrev pub invariant-loop-next : goal.invariant-loop-next
 invariant-loop-next l = l.next ≤ l.decimals
