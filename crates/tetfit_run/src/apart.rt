@@ -100,7 +100,8 @@ pub(crate) fn crossing_help(apart: bool) -> &'static [u8]
     ensures { result.now ≡ crossing_help apart }
 {
     if apart {
-        b"tetfit: they do not cross in the file, rounding made them: move them further apart\n"
+        b"tetfit: they do not cross in the file, rounding made them: \
+          move them apart, or try fewer decimals by --decimals=M\n"
     } else {
         b"tetfit: give both segments the point at which they cross\n"
     }

@@ -159,7 +159,7 @@ tetfit: segments 1 2 and 3 4 cross\n\
 tetfit: points 1 (0 0 0) 2 (0.25 0.25 0)\n\
 tetfit: points 3 (0 0.2 0.000000004) 4 (0.2 0 0.000000004)\n\
 tetfit: coordinates were rounded to 8 decimals, of 9 that the file has\n\
-tetfit: they do not cross in the file, rounding made them: move them further apart\n";
+tetfit: they do not cross in the file, rounding made them: move them apart, or try fewer decimals by --decimals=M\n";
 
 const FLATTENED_TOLD: &[u8] = b"\
 tetfit: all points lie in one plane\n\
