@@ -1,6 +1,5 @@
 -- What a check answers: its refusals, that it holds over all of a run, and that it has one answer.
-use Rattle.std.proofs.Common.{◌≡◌, ℕ, List, Option, Some, None, Result, Ok, Err, refl, sym, subst, ap, ◌∙◌}
-use Rattle.std.specs.Prelude.{◌≢◌}
+use Rattle.std.proofs.Common.{◌≡◌, ℕ, List, Some, None, Result, Ok, Err, refl, sym, subst, ap, ◌∙◌}
 use Rattle.far_meshes.proofs.Once.{far_once}
 use Rattle.far_meshes.proofs.Wider.{far_wider}
 use Rattle.far_meshes.specs.Checking.{FarCheckAnswer}

@@ -1,6 +1,6 @@
 -- What a run makes of its words: its refusals, its mesh, and that it holds over all of a run.
-use Rattle.std.proofs.Common.{◌≡◌, ◌<◌, arith, inl, inr, ℕ, true, false, List, [], Option, Some, None, Result, Ok, Err, refl, sym, ◌∙◌, subst, ap}
-use Rattle.std.specs.Prelude.{Bool, IsTrue, All, IfOk, IfErr}
+use Rattle.std.proofs.Common.{◌≡◌, inl, inr, ℕ, true, false, List, Option, Some, None, Result, Ok, Err, refl, sym, ◌∙◌, subst, ap}
+use Rattle.std.specs.Prelude.{Bool, IsTrue, IfOk, IfErr}
 use Rattle.command_words.specs.declared.fault.WordsFault.{WordsFault}
 use Rattle.command_words.specs.declared.fault.WordsFault.TheVariants.{Usage as Misunderstood, NoMemory as WordsWanting}
 use Rattle.command_words.specs.declared.options.Options.{Options}

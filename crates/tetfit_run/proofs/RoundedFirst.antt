@@ -1,12 +1,11 @@
 -- Points that are rounded before they are put on their grid.
-use Rattle.std.proofs.Common.{◌≡◌, ℕ, ◌*◌, ◌<◌, ◌≤◌, map, length, List, Option, Some, None, Result, Ok, Err, sym, subst, ap, arith}
-use Rattle.std.specs.Prelude.{IfOk, IfSome, if◌then◌else◌}
+use Rattle.std.proofs.Common.{◌≡◌, ℕ, ◌<◌, ◌≤◌, map, length, Option, Some, None, Result, Ok, Err, sym, subst, ap, arith}
+use Rattle.std.specs.Prelude.{IfOk, IfSome}
 use Rattle.std.proofs.lemmas.List.{length-map}
 use Rattle.command_words.specs.Meaning.{AreInRange}
 use Rattle.command_words.specs.declared.options.Options.{Options}
 use Rattle.grid_coords.specs.Origins.{IsNearBy}
 use Rattle.grid_coords.specs.declared.origin.WholePoint.{WholePoint}
-use Rattle.grid_coords.specs.declared.points.DecimalPoint.{DecimalPoint}
 use Rattle.node_files.specs.Settling.{rounded_point}
 use Rattle.node_files.specs.declared.limits.Limits.{Limits}
 use Rattle.node_files.specs.declared.node_text.NodeText.{NodeText}
@@ -17,7 +16,7 @@ use Rattle.run_steps.specs.declared.input.Input.{Input}
 use Rattle.run_steps.specs.declared.mesh.Bound.{Bound}
 use Rattle.run_steps.specs.declared.status.LimitKind.TheVariants.{Points, Facets, Corners, Grid as OnGrid}
 use Rattle.run_steps.specs.declared.status.Status.{Status}
-use Rattle.run_steps.specs.declared.status.Status.TheVariants.{Limit, NoMemory}
+use Rattle.run_steps.specs.declared.status.Status.TheVariants.{Limit}
 use Rattle.tetfit_run.specs.Trial.{rounded_nodes, AreInTriedRange}
 use Rattle.tetfit_run.specs.Trying.{at_decimals, without_decimals}
 use Rattle.tetfit_run.proofs.Measured.{sound_with}

@@ -1,5 +1,5 @@
 -- Segments that cross once coordinates are rounded, and do not cross in the file.
-use Rattle.std.specs.Prelude.{◌≡◌, ℕ, ◌==◌, nat_lt, Bool, true, false, length, drop, slice_get, slice_index, List, [], ◌∷◌, ◌++◌, codes, Option, Some, None, Ok, if◌then◌else◌}
+use Rattle.std.specs.Prelude.{◌≡◌, ℕ, ◌==◌, nat_lt, Bool, true, false, length, drop, slice_get, slice_index, List, [], ◌∷◌, codes, Option, Some, None, Ok, if◌then◌else◌}
 use Rattle.sign_predicates.specs.Point.{Point}
 use Rattle.geo_laws.specs.Simplex.{ProperlyMet}
 use Rattle.geo_laws.specs.declared.complex.Piece.{Piece}
@@ -47,7 +47,8 @@ pub record AreApart (points : List DecimalPoint) (by : Numbering) (one two : Pie
 
 -- what would help: where they are apart in the file, and where they are not known to be
 abbrev pub crossing_help : Bool → List ℕ
-crossing_help true = codes "tetfit: they do not cross in the file, rounding made them: move them apart, or try fewer decimals by --decimals=M\n"
+crossing_help true =
+    codes "tetfit: they do not cross in the file, rounding made them: move them apart, or try fewer decimals by --decimals=M\n"
 crossing_help false = codes "tetfit: give both segments the point at which they cross\n"
 
 -- the line on what would help two segments that cross once coordinates are rounded

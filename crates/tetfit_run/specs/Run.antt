@@ -1,5 +1,5 @@
 -- The status of a run of `tetfit`, the files that it leaves, and its messages.
-use Rattle.std.specs.Prelude.{◌≡◌, ◌≢◌, ◌≤◌, ◌⊎◌, ℕ, IsTrue, false, List, Option, Some, None, Ok, Err}
+use Rattle.std.specs.Prelude.{◌≡◌, ◌≢◌, ◌⊎◌, ℕ, IsTrue, false, List, Option, Some, None, Ok, Err}
 use Rattle.command_words.specs.declared.options.Options.{Options}
 use Rattle.tetfit_run.specs.Keyword.{TellsKeyword}
 use Rattle.tetfit_run.specs.Hints.{IsHint, IsHintBy, flat_text, moved_text, off_grid_text}

@@ -159,7 +159,8 @@ tetfit: segments 1 2 and 3 4 cross\n\
 tetfit: points 1 (0 0 0) 2 (0.25 0.25 0)\n\
 tetfit: points 3 (0 0.2 0.000000004) 4 (0.2 0 0.000000004)\n\
 tetfit: coordinates were rounded to 8 decimals, of 9 that the file has\n\
-tetfit: they do not cross in the file, rounding made them: move them apart, or try fewer decimals by --decimals=M\n";
+tetfit: they do not cross in the file, rounding made them: \
+move them apart, or try fewer decimals by --decimals=M\n";
 
 const FLATTENED_TOLD: &[u8] = b"\
 tetfit: all points lie in one plane\n\
@@ -167,7 +168,7 @@ tetfit: coordinates were rounded to 35 decimals, of 36 that the file has\n\
 tetfit: four points that are not in one plane are wanted\n";
 
 /// The message on a model beside the status.
-static TOLD: [Run<'static>; 13] = [
+static TOLD: [Run<'static>; 14] = [
     Run {
         name: "off each grid",
         held: &[(b"t.node", &[FAR])],

@@ -1,7 +1,7 @@
 use Rattle.std.proofs.Common.{subst, arith}
 use Rattle.tetfit_run.specs.Grids.{AreOffBetween}
 use Rattle.tetfit_run.specs.Measured.{first_tried}
-use Rattle.tetfit_run.proofs.Measured.{at_last, first_among, first_is, last_is, next_among, of_near, tried_few}
+use Rattle.tetfit_run.proofs.Measured.{first_among, first_is, last_is, next_among, of_near, tried_few}
 use Rattle.tetfit_run.proofs.Tries.{refused_behind}
 use Rattle.tetfit_run.proofs.fitting.fit_input.Goals as goal
 

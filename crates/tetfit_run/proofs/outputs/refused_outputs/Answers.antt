@@ -5,7 +5,13 @@ use Rattle.tetfit_run.specs.Hints.{moved_text}
 use Rattle.tetfit_run.specs.Outputs.{IsConformedBy, IsFittedTo, fit_limits}
 use Rattle.tetfit_run.specs.declared.fitting.Fitted.{Fitted}
 use Rattle.tetfit_run.proofs.Fitted.{conformed_told, unfitted_is}
+use Rattle.tetfit_run.proofs.Measured.{tried_few}
 use Rattle.tetfit_run.proofs.outputs.refused_outputs.Goals as goal
+
+pub hint_of-requires-clause-ranges : goal.hint_of-requires-clause-ranges
+hint_of-requires-clause-ranges g c =
+    let decimals = c.args.refused.decimals in
+    c.requires.ranges decimals (tried_few c.args.wanted.now.options c.args.model.now.input decimals c.requires.refused.0.within)
 
 pub returns-in-Some-clause-made : goal.returns-in-Some-clause-made
 returns-in-Some-clause-made g c =

@@ -1,10 +1,16 @@
-use Rattle.std.proofs.Common.{◌≡◌, List, sym, subst}
+use Rattle.std.proofs.Common.{◌≡◌, List, sym, subst, arith}
 use Rattle.grid_coords.specs.declared.points.DecimalPoint.{DecimalPoint}
 use Rattle.tetfit_run.specs.Hints.{moved_text}
 use Rattle.tetfit_run.specs.Outputs.{IsFittedTo}
 use Rattle.std.specs.Prelude.{Ok}
 use Rattle.tetfit_run.proofs.Fitted.{fitted_told}
+use Rattle.tetfit_run.proofs.Measured.{tried_few}
 use Rattle.tetfit_run.proofs.outputs.told_outputs.Goals as goal
+
+pub final_outputs-requires-clause-ranges : goal.final_outputs-requires-clause-ranges
+final_outputs-requires-clause-ranges g c = λ m le.
+    let few = tried_few c.args.wanted.now.options c.args.input.now c.args.fitted.decimals c.requires.fitted.within in
+    c.requires.ranges m (omega (arith, le, few))
 
 pub returns-clause-made : goal.returns-clause-made
 returns-clause-made g c =

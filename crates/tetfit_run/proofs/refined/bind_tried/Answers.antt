@@ -1,5 +1,4 @@
 use Rattle.std.proofs.Common.{Ok, ap, ◌∙◌, subst}
-use Rattle.plc_files.specs.Text.{limits_of}
 use Rattle.refining.specs.Goals.{shape_bounds}
 use Rattle.tetfit_run.specs.Measured.{BoundTried}
 use Rattle.tetfit_run.specs.Trial.{TrialValue}

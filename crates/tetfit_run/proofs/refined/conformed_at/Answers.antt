@@ -3,8 +3,6 @@ use Rattle.std.specs.Prelude.{IfOk, IfSome}
 use Rattle.std.proofs.lemmas.Option.{IfSome_then}
 use Rattle.std.proofs.lemmas.Result.{IfOk-weaker}
 use Rattle.command_words.specs.declared.options.Options.{Options}
-use Rattle.plc_files.specs.Text.{limits_of}
-use Rattle.refining.specs.Goals.{shape_bounds}
 use Rattle.refining.specs.Outputs.{ConformingMeshed, RefinedAnswer}
 use Rattle.refining.specs.declared.goal.ShapeBounds.{ShapeBounds}
 use Rattle.tetfit_run.specs.Measured.{tried}

@@ -1,4 +1,4 @@
-use Rattle.std.proofs.Common.{Ok, Err, subst}
+use Rattle.std.proofs.Common.{subst}
 use Rattle.command_words.specs.declared.options.Options.{Options}
 use Rattle.plc_files.specs.Text.{limits_of}
 use Rattle.refining.specs.Goals.{shape_bounds}

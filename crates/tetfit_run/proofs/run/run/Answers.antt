@@ -1,16 +1,20 @@
-use Rattle.std.proofs.Common.{true, false, Ok, refl, arith, ap, ◌∙◌, rules}
+use Rattle.std.proofs.Common.{◌≡◌, ℕ, true, false, List, Ok, refl, arith, ap, subst, ◌∙◌, rules}
 use Rattle.std.proofs.lemmas.Result.{err_from_is_err_and}
 use Rattle.tet_ports.proofs.Windows.{IsWithin}
-use Rattle.tet_ports.specs.Seen.{FolderSeen, SinkSeen, folder_seen, sink_seen}
+use Rattle.tet_ports.specs.Seen.{FolderSeen, IsMessagePut, SinkSeen, SinkState, folder_seen, sink_seen}
 use Rattle.tetgen_run.proofs.Endings.{finish_ends}
 use Rattle.tetfit_run.specs.Outputs.{OutputsOfFit}
 use Rattle.tetfit_run.specs.Run.{IsKnown}
 use Rattle.tetfit_run.specs.Said.{said_put}
-use Rattle.tetfit_run.specs.Stages.{says_stages, stages_text}
+use Rattle.tetfit_run.specs.Stages.{between, says_stages, stages_text}
 use Rattle.tetfit_run.specs.declared.stages.TheConstants.{READS, STORES}
 use Rattle.tetfit_run.proofs.Fitted.{fit_refuses, fit_wider}
 use Rattle.tetfit_run.proofs.Pieces.{finished_made, rounds_said, stage_said, stopped_unmade}
 use Rattle.tetfit_run.proofs.run.run.Goals as goal
+
+-- what is put is put where the sink is seen later, unchanged
+put_later : (text : List ℕ) (old now later : SinkState) → now ≡ later → IsMessagePut text (between old now) → IsMessagePut text (between old later)
+put_later text old now later e h = subst (λ (s : SinkState). IsMessagePut text (between old s)) e h
 
 pub returns-clause-ends : goal.returns-clause-ends
 returns-clause-ends g c =
@@ -68,4 +72,4 @@ returns-clause-stages g c =
     let said = rounds_said says c.new-stages.result.says c.say.new.self.says c.new-stages.result.goes_on c.say.new.self.goes_on c.outputs_of.new.watch.goes_on READS.now shown.0 (E.state c.args.err.now) (E.state c.new-stages.result.err.now) (E.state c.say.new.self.err.now) (E.state c.outputs_of.new.watch.err.now) first.goes_on are c.say.ensures.says (ap E.state first.kept) c.say.ensures.said shown.1.2 in
     let all = stage_said says c.outputs_of.new.watch.says c.outputs_of.new.watch.goes_on c.say-2.new.self.goes_on (stages_text says shown.0 false) STORES.now (E.state c.args.err.now) (E.state c.outputs_of.new.watch.err.now) (E.state c.say-2.new.self.err.now) (shown.1.1 ∙ c.say.ensures.says ∙ are) said last.said in
     let put = said_put c.say-2.new.self.goes_on (stages_text says shown.0 true) (E.state c.args.err.now) (E.state c.say-2.new.self.err.now) all in
-    (shown.0, true, made, search rules)
+    (shown.0, true, made, put_later (stages_text says shown.0 true) (E.state c.args.err.now) (E.state c.say-2.new.self.err.now) _ (search rules) put)

@@ -1,4 +1,4 @@
-use Rattle.std.proofs.Common.{◌≡◌, ◌≢◌, ◌<◌, ◌-◌, ℕ, max, refl, sym, ◌∙◌, arith}
+use Rattle.std.proofs.Common.{◌≡◌, ◌≢◌, ◌<◌, ◌-◌, ℕ, max, refl, arith}
 use Rattle.tetfit_run.proofs.Missing.{halved_here, step_of}
 use Rattle.tetfit_run.proofs.PartsBefore.{part_before, part_whole}
 use Rattle.tetfit_run.proofs.wholes.whole_of.Goals as goal
