@@ -13,7 +13,6 @@ use node_files::{GridOptions, Limits, Markers, Names, NodeFault, NodeTable, Node
 use std::alloc::Global;
 use tet_ports::{NoMemory, Words};
 use tet_text::Decimal;
-use thiserror::Error;
 
 /// A point with whole coordinates, each at most 2^29 in size where it is meshed.
 #[repr(C)]
@@ -35,22 +34,17 @@ pub struct Row {
 }
 
 /// Why an array of points has no Delaunay list, or why the list was not written.
-#[derive(Clone, Copy, Debug, PartialEq, Eq, Error)]
+#[derive(Clone, Copy, Debug, PartialEq, Eq)]
 pub enum ArrayFault {
     /// There are more than 4,000,000 points.
-    #[error("more than 4000000 points")]
     TooMany,
     /// A coordinate is over 2^29 in size.
-    #[error("a coordinate is over 2^29 in size")]
     OffGrid,
     /// All points lie in one plane.
-    #[error("all points lie in one plane")]
     Flat,
     /// The list is longer than the array that is to take it; its length.
-    #[error("no room for {count} tetrahedra")]
     NoRoom { count: usize },
     /// Out of memory.
-    #[error("out of memory")]
     NoMemory,
 }
 

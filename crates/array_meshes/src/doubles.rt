@@ -5,7 +5,6 @@ ghost use Rattle.array_meshes.specs.Doubles.{IsDoubleFault, code_of, rounded_pla
 
 use crate::arrays::Place;
 use double_places::nearest_units;
-use thiserror::Error;
 
 /// A point whose coordinates are binary floats of 64 bits, by their bits, as three `double` of C
 /// lie in memory.
@@ -18,16 +17,13 @@ pub struct DoublePoint {
 }
 
 /// Why points are not rounded.
-#[derive(Clone, Copy, Debug, PartialEq, Eq, Error)]
+#[derive(Clone, Copy, Debug, PartialEq, Eq)]
 pub enum DoubleFault {
     /// More than 22 decimals are asked for.
-    #[error("more than 22 decimals")]
     TooFine,
     /// A rounded coordinate is over 2^29 in size, or a coordinate is infinite or no number.
-    #[error("a coordinate is over 2^29 in size, infinite or no number")]
     OffGrid,
     /// The array that is to take the points is shorter than theirs.
-    #[error("no room for the points")]
     NoRoom,
 }
 

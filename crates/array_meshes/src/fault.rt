@@ -5,7 +5,6 @@ ghost use Rattle.array_meshes.specs.Meshes.{code_of, mesh_code, wanted_of};
 
 use complex_mesh::MeshFault;
 use tet_ports::NoMemory;
-use thiserror::Error;
 
 /// How long the lists of a mesh are, and the number of halvings: a coordinate of the mesh is a
 /// whole number over 2^halvings.
@@ -19,27 +18,21 @@ pub struct Counts {
 }
 
 /// Why a complex of arrays has no mesh, or why its mesh is not handed over.
-#[derive(Clone, Copy, Debug, PartialEq, Eq, Error)]
+#[derive(Clone, Copy, Debug, PartialEq, Eq)]
 pub enum ComplexFault {
     /// There are more than 4,000,000 points, or more than 100,000,000 may be added.
-    #[error("more than 4000000 points, or more than 100000000 that may be added")]
     TooMany,
     /// A coordinate of a point is over 2^29 in size.
-    #[error("a coordinate is over 2^29 in size")]
     OffGrid,
     /// A facet names a polygon that is not there, or one of its polygons a corner that is not
     /// there, or a corner a point.
-    #[error("a facet, a polygon or a corner names what is not there")]
     BadIndex,
     /// The complex on the points has no mesh; of equal points the first counts, and others have no
     /// number.
-    #[error("{fault}")]
     Unmeshed { fault: MeshFault },
     /// A list of the mesh is longer than the array that is to take it; the lengths.
-    #[error("no room for the mesh")]
     NoRoom { counts: Counts },
     /// Out of memory.
-    #[error("out of memory")]
     NoMemory,
 }
 

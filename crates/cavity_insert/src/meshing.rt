@@ -22,16 +22,13 @@ use std::alloc::Global;
 use std::marker::Brand;
 use std::sync::ledger::{Blank, Ledger};
 use tet_ports::NoMemory;
-use thiserror::Error;
 
 /// Why there is no Delaunay list.
-#[derive(Clone, Copy, Debug, PartialEq, Eq, Error)]
+#[derive(Clone, Copy, Debug, PartialEq, Eq)]
 pub enum BuildFault {
     /// All points lie in one plane.
-    #[error("all points lie in one plane")]
     Flat,
     /// Out of memory.
-    #[error("out of memory")]
     NoMemory,
 }
 

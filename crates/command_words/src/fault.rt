@@ -1,16 +1,13 @@
 //! Why words give no options.
 
 use tet_ports::NoMemory;
-use thiserror::Error;
 
 /// Why words give no options.
-#[derive(Clone, Copy, Debug, PartialEq, Eq, Error)]
+#[derive(Clone, Copy, Debug, PartialEq, Eq)]
 pub enum WordsFault {
     /// The first bad word and the place of the first bad byte in it, both counted from 1.
-    #[error("word {word}, place {place}: not understood")]
     Usage { word: usize, place: usize },
     /// Out of memory.
-    #[error("out of memory")]
     NoMemory,
 }
 

@@ -6,39 +6,30 @@ use segment_protect::ProtectFault;
 use simplex_meets::{Part, PlaneFault};
 use tangle_laws::Anomaly;
 use tet_ports::NoMemory;
-use thiserror::Error;
 
 /// Why a complex has no mesh. Points are named by their numbers and facets by their places in the
 /// complex, both from 0.
-#[derive(Clone, Copy, Debug, PartialEq, Eq, Error)]
+#[derive(Clone, Copy, Debug, PartialEq, Eq)]
 pub enum MeshFault {
     /// All points lie in one plane.
-    #[error("all points lie in one plane")]
     Flat,
     /// Four corners of this facet, the first such facet, are not in one plane.
-    #[error("a facet is not flat")]
     NotFlat { facet: u32, four: Tet },
     /// These two pieces of segments, the first such two, have a common point that is no common end.
-    #[error("segments cross")]
     SegmentsCross { one: Piece, two: Piece },
     /// This subsegment is no edge of a Delaunay tetrahedron, and was halved as often as the grid
     /// allows.
-    #[error("a segment needs a finer grid")]
     GridEnd { piece: Piece },
     /// This subsegment is no edge of a Delaunay tetrahedron, and as many points were added as
     /// allowed.
-    #[error("{made} splits used")]
     BudgetEnd { made: u32, piece: Piece },
     /// A triangle of a facet and another one or a piece, the first such two, have a common point
     /// that is not in the hull of their common corners.
-    #[error("facets or segments cross")]
     Crossing { one: Part, two: Part },
     /// Two facets cross a Delaunay tetrahedron, and the constrained Delaunay tetrahedra have this
     /// anomaly.
-    #[error("tangled facets")]
     NoFill { anomaly: Anomaly },
     /// Memory ran out.
-    #[error("out of memory")]
     NoMemory,
 }
 

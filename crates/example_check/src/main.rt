@@ -36,7 +36,7 @@ fn main(rt: HostRuntime) -> io::Result<()> {
     for tetrahedra in [TETRAHEDRA, OVERLAPPING] {
         match verdict(rt.alloc(), tetrahedra) {
             Ok(count) => println!(rt; "sound: {count} tetrahedra")?,
-            Err(fault) => println!(rt; "{fault}")?,
+            Err(fault) => println!(rt; "{fault:?}")?,
         }
     }
     Ok(())

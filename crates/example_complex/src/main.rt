@@ -95,6 +95,6 @@ fn main(rt: HostRuntime) -> io::Result<()> {
     };
     match mesh_arrays(rt.alloc(), &complex) {
         Ok(mesh) => print(&rt, &mesh),
-        Err(fault) => println!(rt; "refused: {fault}"),
+        Err(fault) => println!(rt; "refused: {fault:?}"),
     }
 }

@@ -21,6 +21,6 @@ fn main(rt: HostRuntime) -> io::Result<()> {
             }
             Ok(())
         }
-        Err(fault) => println!(rt; "refused: {fault}"),
+        Err(fault) => println!(rt; "refused: {fault:?}"),
     }
 }

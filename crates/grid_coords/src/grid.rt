@@ -1,7 +1,5 @@
 //! Grids, and what does not fit one.
 
-use thiserror::Error;
-
 /// A grid. Its unit is 1 / (10^`decimals` × 2^`halvings`).
 #[derive(Clone, Copy, Debug, PartialEq, Eq)]
 pub struct Grid {
@@ -10,8 +8,7 @@ pub struct Grid {
 }
 
 /// A point has a coordinate that is too large for the grid; the line that states the point, from 1.
-#[derive(Clone, Copy, Debug, PartialEq, Eq, Error)]
-#[error("line {line}: coordinate off the grid")]
+#[derive(Clone, Copy, Debug, PartialEq, Eq)]
 pub struct Range {
     pub line: usize,
 }

@@ -8,17 +8,14 @@ use crate::ran::{Joined, Ran, join};
 use crate::texts::Slice;
 use std::alloc::Global;
 use tet_ports::NoMemory;
-use thiserror::Error;
 
 /// Why the texts of a run are not handed over.
-#[derive(Clone, Copy, Debug, PartialEq, Eq, Error)]
+#[derive(Clone, Copy, Debug, PartialEq, Eq)]
 pub enum RunFault {
     /// There is too little room for the lengths or for the bytes of the texts; how many bytes they
     /// have.
-    #[error("no room for {count} bytes")]
     NoRoom { count: usize },
     /// Out of memory.
-    #[error("out of memory")]
     NoMemory,
 }
 

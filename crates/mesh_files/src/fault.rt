@@ -5,16 +5,13 @@ ghost use Rattle.mesh_files.specs.declared.fault.MeshFault.TheVariants.{Text, No
 
 use tet_ports::NoMemory;
 use tet_text::TextFault;
-use thiserror::Error;
 
 /// Why a file of a mesh could not be read.
-#[derive(Clone, Copy, Debug, PartialEq, Eq, Error)]
+#[derive(Clone, Copy, Debug, PartialEq, Eq)]
 pub enum MeshFault {
     /// The text is not in the grammar; its first fault.
-    #[error("{0}")]
     Text(TextFault),
     /// Out of memory.
-    #[error("out of memory")]
     NoMemory,
 }
 

@@ -6,22 +6,17 @@ ghost use Rattle.node_files.specs.declared.fault.NodeFault.TheVariants.{Text, No
 use grid_coords::Range;
 use tet_ports::NoMemory;
 use tet_text::TextFault;
-use thiserror::Error;
 
 /// Why a point list could not be read or settled.
-#[derive(Clone, Copy, Debug, PartialEq, Eq, Error)]
+#[derive(Clone, Copy, Debug, PartialEq, Eq)]
 pub enum NodeFault {
     /// The text is not in the grammar; its first fault.
-    #[error("{0}")]
     Text(TextFault),
     /// There are more points than are allowed; their number, and how many are allowed.
-    #[error("{count} points, at most {most}")]
     TooMany { count: u64, most: usize },
     /// A coordinate is too large for the grid; the line of the first such point, from 1.
-    #[error("line {line}: coordinate off the grid")]
     Range { line: usize },
     /// Out of memory.
-    #[error("out of memory")]
     NoMemory,
 }
 

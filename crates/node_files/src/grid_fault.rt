@@ -5,19 +5,15 @@ ghost use Rattle.node_files.specs.declared.grid_fault.GridFault.TheVariants.{NoM
 
 use grid_coords::Range;
 use tet_ports::NoMemory;
-use thiserror::Error;
 
 /// Why the points of a mesh are on no grid.
-#[derive(Clone, Copy, Debug, PartialEq, Eq, Error)]
+#[derive(Clone, Copy, Debug, PartialEq, Eq)]
 pub enum GridFault {
     /// There are more points than are allowed; their number.
-    #[error("{count} points are too many")]
     TooMany { count: u64 },
     /// A coordinate is too large for the grid; the line of the first such point, from 1.
-    #[error("line {line}: coordinate off the grid")]
     Range { line: usize },
     /// Out of memory.
-    #[error("out of memory")]
     NoMemory,
 }
 

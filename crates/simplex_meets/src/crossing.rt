@@ -9,17 +9,14 @@ use crate::pairing::{first_pair, first_unmet_pair};
 use geo_laws::{FacetTriangles, Pieces, Points};
 use std::alloc::Global;
 use tet_ports::NoMemory;
-use thiserror::Error;
 
 /// Why the triangles of facets and the pieces are not a complex.
-#[derive(Clone, Copy, Debug, PartialEq, Eq, Error)]
+#[derive(Clone, Copy, Debug, PartialEq, Eq)]
 pub enum PlaneFault {
     /// These two parts are not properly met: they have a common point that is not in the hull of
     /// their common corners.
-    #[error("facets or segments cross")]
     Crossing { one: Part, two: Part },
     /// Out of memory.
-    #[error("out of memory")]
     NoMemory,
 }
 

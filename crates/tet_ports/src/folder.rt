@@ -10,23 +10,18 @@ ghost use Rattle.tet_ports.specs.declared.folder.FetchFault.TheVariants.{Missing
 
 use crate::{Bytes, Name, NoMemory};
 use std::alloc::Global;
-use thiserror::Error;
 
 /// Why a fetch gave no file.
-#[derive(Debug, Drop, Error)]
+#[derive(Debug, Drop)]
 pub enum FetchFault {
     /// The folder lacks the name.
-    #[error("not found")]
     Missing,
     /// The folder failed.
-    #[error("read failed")]
     Failed,
     /// The file is longer than was allowed. `taken` has its first bytes, one more than were
     /// allowed.
-    #[error("too long")]
     TooLarge { taken: Bytes },
     /// Out of memory.
-    #[error("out of memory")]
     NoMemory,
 }
 
@@ -39,13 +34,11 @@ impl From<NoMemory> for FetchFault {
 }
 
 /// Why a store was refused.
-#[derive(Clone, Copy, Debug, PartialEq, Eq, Error)]
+#[derive(Clone, Copy, Debug, PartialEq, Eq)]
 pub enum StoreFault {
     /// The folder failed.
-    #[error("write failed")]
     Failed,
     /// Out of memory.
-    #[error("out of memory")]
     NoMemory,
 }
 

@@ -1,11 +1,9 @@
 //! Out of memory.
 
 use std::alloc::{AllocError, AllocFailed};
-use thiserror::Error;
 
 /// Out of memory.
-#[derive(Clone, Copy, Debug, PartialEq, Eq, Error)]
-#[error("out of memory")]
+#[derive(Clone, Copy, Debug, PartialEq, Eq)]
 pub struct NoMemory;
 
 impl From<AllocError> for NoMemory {

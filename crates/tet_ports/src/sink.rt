@@ -7,16 +7,13 @@ ghost use Rattle.tet_ports.specs.Written.{PartlyPut, with_written};
 ghost use Rattle.tet_ports.specs.declared.sink.PutFault.TheVariants.{Failed, NoMemory as PutNoMemory};
 
 use crate::NoMemory;
-use thiserror::Error;
 
 /// Why a put was refused.
-#[derive(Clone, Copy, Debug, PartialEq, Eq, Error)]
+#[derive(Clone, Copy, Debug, PartialEq, Eq)]
 pub enum PutFault {
     /// The sink failed.
-    #[error("write failed")]
     Failed,
     /// Out of memory.
-    #[error("out of memory")]
     NoMemory,
 }
 

@@ -1,32 +1,24 @@
 //! What is wrong with a text.
 
-use thiserror::Error;
-
 /// What is wrong with a text, and in which line, counted from 1.
 /// A fault at the end of the text has the number of its lines plus 1.
-#[derive(Clone, Copy, Debug, PartialEq, Eq, Error)]
-#[error("line {line}: {kind}")]
+#[derive(Clone, Copy, Debug, PartialEq, Eq)]
 pub struct TextFault {
     pub line: usize,
     pub kind: TextKind,
 }
 
 /// What is wrong at a place of a text.
-#[derive(Clone, Copy, Debug, PartialEq, Eq, Error)]
+#[derive(Clone, Copy, Debug, PartialEq, Eq)]
 pub enum TextKind {
     /// The text ends where a line is wanted, or a line ends where a field is wanted.
-    #[error("too few")]
     Ended,
     /// A field is not the number that is wanted.
-    #[error("not a number")]
     NotANumber,
     /// A field stands past the last field of its line, or a line past the last line.
-    #[error("too many")]
     Extra,
     /// A count or a flag has a value that its line does not allow.
-    #[error("bad count")]
     BadCount,
     /// The number of a point is not the one wanted, or a corner is out of range.
-    #[error("bad number")]
     BadIndex,
 }

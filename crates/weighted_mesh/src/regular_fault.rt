@@ -7,22 +7,17 @@ use crate::weight_fault::WeightFault;
 use cavity_insert::BuildFault;
 use tet_ports::NoMemory;
 use tet_text::TextFault;
-use thiserror::Error;
 
 /// Why weighted points have no regular mesh.
-#[derive(Clone, Copy, Debug, PartialEq, Eq, Error)]
+#[derive(Clone, Copy, Debug, PartialEq, Eq)]
 pub enum RegularFault {
     /// The first attribute of a point is no decimal.
-    #[error("{0}")]
     Text(TextFault),
     /// A weight is over 2^46 squares of grid units in size; the line of its point, from 1.
-    #[error("line {line}: weight off the grid")]
     TooHeavy { line: usize },
     /// All points lie in one plane.
-    #[error("all points lie in one plane")]
     Flat,
     /// Out of memory.
-    #[error("out of memory")]
     NoMemory,
 }
 

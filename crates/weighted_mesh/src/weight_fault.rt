@@ -5,19 +5,15 @@ ghost use Rattle.weighted_mesh.specs.declared.weight_fault.WeightFault.TheVarian
 
 use tet_ports::NoMemory;
 use tet_text::TextFault;
-use thiserror::Error;
 
 /// Why the weights of a point list could not be read.
-#[derive(Clone, Copy, Debug, PartialEq, Eq, Error)]
+#[derive(Clone, Copy, Debug, PartialEq, Eq)]
 pub enum WeightFault {
     /// The first attribute of a point is no decimal.
-    #[error("{0}")]
     Text(TextFault),
     /// A weight is over 2^46 squares of grid units in size; the line of its point, from 1.
-    #[error("line {line}: weight off the grid")]
     TooHeavy { line: usize },
     /// Out of memory.
-    #[error("out of memory")]
     NoMemory,
 }
 
