@@ -36,6 +36,7 @@ formats_of words = record {
 abbrev pub no_formats : Formats
 no_formats = record { vtk = false; msh = false; second_order = false }
 
+-- the format, where it is asked for
 abbrev pub listed_if : Bool → Format → List Format
 listed_if true format = format ∷ []
 listed_if false format = []
@@ -44,6 +45,7 @@ listed_if false format = []
 abbrev pub asked : Formats → List Format
 asked formats = listed_if formats.vtk Vtk ++ listed_if formats.msh Msh
 
+-- there is one
 abbrev pub are_some : List Format → Bool
 are_some [] = false
 are_some (format ∷ more) = true

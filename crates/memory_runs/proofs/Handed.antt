@@ -3,7 +3,7 @@ use Rattle.std.proofs.Common.{◌≡◌, ◌⊎◌, ℕ, ◌+◌, ◌<◌, List,
 use Rattle.std.proofs.lemmas.List.{length-map}
 use Rattle.tet_ports.specs.MemFolder.{MemoryFiles}
 use Rattle.tet_ports.specs.MemSink.{MemoryBytes}
-use Rattle.run_steps.specs.Codes.{code_of}
+use Rattle.run_steps.specs.Statuses.{code_of}
 use Rattle.memory_runs.specs.Runs.{AreTextsOf, IsHandedOver, IsRunFault, IsRunOf, IsTextsFault, RunLaw, RunsTo}
 use Rattle.memory_runs.specs.Texts.{IsShort, bytes_of, folder_of, joined, length_of, no_bytes, text_in, texts_left}
 use Rattle.memory_runs.specs.declared.handing.HandedOver.{HandedOver}

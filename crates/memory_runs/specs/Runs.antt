@@ -4,7 +4,7 @@ use Rattle.tet_ports.specs.Calls.{failures}
 use Rattle.tet_ports.specs.MemFolder.{MemoryFiles}
 use Rattle.tet_ports.specs.MemSink.{MemoryBytes}
 use Rattle.tet_ports.specs.Seen.{FolderSeen, FolderState, SinkSeen, SinkState, folder_seen, sink_seen}
-use Rattle.run_steps.specs.Codes.{code_of}
+use Rattle.run_steps.specs.Statuses.{code_of}
 use Rattle.run_steps.specs.declared.status.Status.{Status}
 use Rattle.tetfit_run.specs.Run.{IsFitAnswer, IsFitComplete, IsFitLeft, IsFitTold}
 use Rattle.tetgen_run.specs.Run.{IsAnswer, IsComplete, IsLeft, IsTold}

@@ -10,7 +10,7 @@ use Rattle.complex_mesh.specs.declared.mesh.ComplexMesh.{ComplexMesh}
 use Rattle.refining.proofs.PointsBehind.{law_plain}
 use Rattle.refining.specs.Corners.{AreCorners}
 use Rattle.refining.specs.Refined.{IsFewWith, IsMeshWith}
-use Rattle.run_steps.specs.Codes.{status_of_fault}
+use Rattle.run_steps.specs.Faults.{status_of_fault}
 use Rattle.node_files.specs.Writing.{IsNearGrid}
 use Rattle.run_steps.specs.Meshing.{IsMeshableBound, IsUnmeshed, MeshOf, mesh_of_complex}
 use Rattle.run_steps.specs.declared.mesh.Bound.{Bound}

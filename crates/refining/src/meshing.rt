@@ -2,7 +2,7 @@
 
 ghost use Rattle.std.specs.Prelude.{◌≡◌, ◌≤◌, ◌^◌, [], Ok, MatchResult, IfOk, IfErr};
 ghost use Rattle.run_steps.specs.Meshing.{IsMeshableBound, IsUnmeshed};
-ghost use Rattle.run_steps.specs.Codes.{status_of_fault};
+ghost use Rattle.run_steps.specs.Faults.{status_of_fault};
 ghost use Rattle.refining.specs.Refined.{options_with, IsFewWith, IsRefineFault};
 
 use crate::behind::with_points;

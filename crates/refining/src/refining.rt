@@ -4,7 +4,7 @@
 ghost use Rattle.std.specs.Prelude.{◌≡◌, ◌≤◌, ◌<◌, ◌^◌, length, IfOk, IfErr, IfSome};
 ghost use Rattle.run_steps.specs.Meshing.{IsMeshableBound, IsUnmeshed};
 ghost use Rattle.run_steps.specs.Outputs.{IsWritable};
-ghost use Rattle.run_steps.specs.Codes.{status_of_fault};
+ghost use Rattle.run_steps.specs.Faults.{status_of_fault};
 ghost use Rattle.refining.specs.Refining.{IsRefinedBehind, IsRefinedTo, IsTakenMesh, IsTurn};
 ghost use Rattle.refining.specs.Rounds.{AreShown, frame_of};
 ghost use Rattle.tet_shapes.specs.Shape.{IsFine};

@@ -17,7 +17,7 @@ use Rattle.command_words.specs.Meaning.{options_of}
 use Rattle.command_words.specs.Names.{file_name}
 use Rattle.command_words.specs.declared.options.Extension.TheVariants.{Node}
 use Rattle.command_words.specs.declared.options.Options.{Options}
-use Rattle.run_steps.specs.Codes.{status_of_weights}
+use Rattle.run_steps.specs.Faults.{status_of_weights}
 use Rattle.run_steps.specs.Meshing.{IsUnbound, IsFlatRefusal, MeshOf, MeshedAnswer, OutputsOfRun, PointsMeshOf, grid_options}
 use Rattle.run_steps.specs.Reading.{IsUsage, IsUnfetched, IsBadText, InputAnswer, InputOf, PointsAnswer, node_text_of, points_alone}
 use Rattle.tet_ports.specs.Seen.{FolderSeen, SinkSeen}

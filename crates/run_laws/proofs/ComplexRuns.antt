@@ -9,7 +9,7 @@ use Rattle.plc_files.specs.declared.form.Form.TheVariants as form
 use Rattle.tet_ports.specs.Files.{Holds}
 use Rattle.tet_text.specs.Lines.{content_lines}
 use Rattle.complex_mesh.specs.declared.mesh.ComplexMesh.{ComplexMesh}
-use Rattle.run_steps.specs.Codes.{status_of_fault}
+use Rattle.run_steps.specs.Faults.{status_of_fault}
 use Rattle.run_steps.specs.Meshing.{MeshAnswer, mesh_of_complex}
 use Rattle.run_steps.specs.Reading.{InputAnswer, complex_file, plc_text_of}
 use Rattle.tet_ports.specs.Seen.{FolderSeen}

@@ -6,7 +6,7 @@ use Rattle.command_words.specs.Meaning.{options_of}
 use Rattle.command_words.specs.declared.options.Options.{Options}
 use Rattle.complex_mesh.specs.Protection.{complex_triangles}
 use Rattle.node_files.specs.declared.limits.Limits.{Limits}
-use Rattle.run_steps.specs.Codes.{status_of_fault}
+use Rattle.run_steps.specs.Faults.{status_of_fault}
 use Rattle.run_steps.specs.Meshing.{BoundAnswer, MeshOf, MeshAnswer, MeshedAnswer, OutputsAnswer, OutputsOfRun, IsUnmeshed, mesh_options}
 use Rattle.run_steps.specs.Reading.{IsUsage, InputAnswer}
 use Rattle.tet_ports.specs.Seen.{FolderSeen, SinkSeen}

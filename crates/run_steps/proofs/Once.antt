@@ -30,7 +30,7 @@ use Rattle.plc_files.specs.declared.fault.PlcFault.TheVariants as plc_faults
 use Rattle.tet_ports.specs.Counts.{Rose}
 use Rattle.tet_ports.specs.Files.{Files}
 use Rattle.tet_text.specs.declared.fault.TextFault.{TextFault}
-use Rattle.run_steps.specs.Codes.{status_of_fault, status_of_weights}
+use Rattle.run_steps.specs.Faults.{status_of_fault, status_of_weights}
 use Rattle.run_steps.specs.Meshing.{grid_options, mesh_options, IsSmall, IsBoundOn, BoundAnswer, IsFlatRefusal, PointsMeshOf, MeshOf, MeshAnswer, OutputsAnswer, MeshedAnswer, OutputsOfRun}
 use Rattle.run_steps.specs.Reading.{complex_file, points_alone, on_points, node_text_of, plc_text_of, IsUsage, WordsAnswer, FetchAnswer, IsBadText, TextAnswer, PointsAnswer, FormAnswer, ComplexFileAnswer, SourceAnswer, NodesAnswer, BoundedAnswer, InputOf, InputAnswer}
 use Rattle.tet_ports.specs.Seen.{FolderSeen}

@@ -7,7 +7,7 @@ use Rattle.plc_files.specs.Text.{Plc}
 use Rattle.plc_files.specs.declared.fault.PlcFault.{PlcFault}
 use Rattle.plc_files.specs.declared.fault.PlcFault.TheVariants as faults
 use Rattle.command_words.specs.declared.options.Options.{Options}
-use Rattle.run_steps.specs.Codes.{IsOfRead, status_of_bind}
+use Rattle.run_steps.specs.Faults.{IsOfRead, status_of_bind}
 use Rattle.run_steps.specs.Meshing.{IsOverLimit, IsUnbound}
 use Rattle.run_steps.specs.declared.input.Input.{Input}
 use Rattle.run_steps.specs.declared.status.LimitKind.TheVariants.{Facets, Corners}

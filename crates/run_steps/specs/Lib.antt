@@ -1,9 +1,10 @@
-pub mod Codes
+pub mod Faults
+pub mod LineParts
 pub mod Meshing
 pub mod Numbering
-pub mod Messages
 pub mod Outputs
-pub mod Reports
 pub mod Reading
+pub mod Reports
+pub mod Statuses
 pub mod Steps
 pub mod Stores

@@ -21,7 +21,7 @@ use Rattle.plc_files.specs.Binding.{complex_of, HasManyFacets, HasLongPolygon}
 use Rattle.plc_files.specs.Checks.{sizes_check}
 use Rattle.plc_files.specs.Folding.{folded_complex}
 use Rattle.plc_files.specs.Text.{Plc}
-use Rattle.run_steps.specs.Codes.{status_of_fault, status_of_weights}
+use Rattle.run_steps.specs.Faults.{status_of_fault, status_of_weights}
 use Rattle.run_steps.specs.Outputs.{AreOutputsOf}
 use Rattle.run_steps.specs.Reading.{WordsAnswer, InputAnswer}
 use Rattle.tet_ports.specs.Seen.{FolderSeen}

@@ -4,9 +4,9 @@
 
 mod format_files;
 mod input;
+mod line_parts;
 mod mesh;
 mod meshed;
-mod messages;
 mod numbering;
 mod outputs;
 mod put;
@@ -18,10 +18,9 @@ mod store;
 pub use input::{ComplexFile, Fetched, Input, fetch, read_input, with_points};
 pub use mesh::{Bound, bind_input, bind_nodes, complex_meshed, mesh_outputs};
 pub use meshed::{HulledMesh, Meshed};
-pub use messages::message;
 pub use numbering::{Numbering, numbering_of};
 pub use outputs::{Outputs, outputs_of};
 pub use put::put_unwritten;
 pub use report::{Report, Summary, append_counted, text_of};
-pub use status::{LimitKind, Status};
+pub use status::{LimitKind, Status, message};
 pub use store::{NamedText, NamedTexts, StoreStop, Texts, store_all};

@@ -12,7 +12,7 @@ ghost use Rattle.plc_files.specs.Folding.{HasCornersBelow};
 ghost use Rattle.plc_files.specs.Binding.{HasWeights};
 ghost use Rattle.plc_files.specs.Checks.{corners_check, HasFewParts};
 ghost use Rattle.run_steps.specs.Meshing.{grid_options, mesh_options, IsSmall, IsOverLimit, IsMeshableBound, BoundAnswer, IsUnmeshed, IsFlatRefusal, mesh_on, mesh_of_complex, mesh_in, without_decimals, IsBoundOn, PointsMeshOf, MeshOf, MeshAnswer, OutputsAnswer};
-ghost use Rattle.run_steps.specs.Codes.{IsOfRead, status_of_bind, status_of_fault, status_of_weights};
+ghost use Rattle.run_steps.specs.Faults.{IsOfRead, status_of_bind, status_of_fault, status_of_weights};
 ghost use Rattle.run_steps.specs.declared.status.LimitKind.TheVariants.{Grid as OnGrid};
 ghost use Rattle.run_steps.specs.declared.status.Status.TheVariants.{Limit, NoMemory as Wanting};
 ghost use Rattle.command_words.specs.Names.{file_name};

@@ -34,10 +34,14 @@ abbrev pub off_words : List (List ℕ)
 off_words =
     codes "OFF" ∷ codes "COFF" ∷ codes "NOFF" ∷ codes "CNOFF" ∷ codes "STOFF" ∷ codes "STCOFF" ∷ codes "STNOFF" ∷ codes "STCNOFF" ∷ []
 
+-- the field is one of them, in letters of either case
+abbrev pub is_wide_off_word : List ℕ → Bool
+is_wide_off_word field = list_any (str_eq_ignore_ascii_case field) off_words
+
 -- the field is the keyword OFF, or in the wide grammar one of these
 abbrev pub is_off_word : Grammar → List ℕ → Bool
 is_off_word Strict field = bytes_eq field (codes "OFF")
-is_off_word Wide field = list_any (str_eq_ignore_ascii_case field) off_words
+is_off_word Wide field = is_wide_off_word field
 
 -- the keyword, and the counts, on the same content line or on the next one
 unfoldable pub head_of : Grammar → ℕ → Lines → Result ((ℕ × ℕ) × Lines) TextFault

@@ -14,6 +14,6 @@ mod vertex_set;
 
 pub use binary_stl::{is_binary_stl, read_binary_stl};
 pub use laws::{law_wide_off, law_wide_stl};
-pub use off::{read_off, read_wide_off};
+pub use off::{is_wide_off_word, read_off, read_wide_off};
 pub use solids::read_wide_stl;
 pub use stl::read_ascii_stl;

@@ -7,10 +7,9 @@ ghost use Rattle.tet_text.specs.Views.{content_left, line_total};
 ghost use Rattle.plc_files.specs.Outcome.{PlcGives};
 ghost use Rattle.plc_files.specs.Checks.{HasFewParts};
 ghost use Rattle.plc_files.specs.Text.{AreWritten, LastHasPolygon};
-ghost use Rattle.soup_files.specs.declared.fields.Grammar.TheVariants.{Wide};
 ghost use Rattle.soup_files.specs.Surface.{corners_onto, face_onto, faces_onto};
 ghost use Rattle.soup_files.specs.Keyword.{passing_at};
-ghost use Rattle.soup_files.specs.Off.{is_off_word, counts_of, head_of, vertex_line, corner_at};
+ghost use Rattle.soup_files.specs.Off.{is_off_word, is_wide_off_word, counts_of, head_of, vertex_line, corner_at};
 ghost use Rattle.soup_files.specs.Off.{off_polygon, off_by, off_of, wide_off_of};
 ghost use Rattle.tet_text.specs.Repeated.{so_many};
 
@@ -38,9 +37,10 @@ fn read_counts(fields: &mut Fields) -> Result<(u64, u64), TextFault>
     Ok((points, faces))
 }
 
-/// Whether the bytes of a field are one of the keywords that begin a file in the wide grammar.
-fn is_wide_off_word(bytes: &[u8]) -> bool
-    ensures { result ≡ is_off_word Wide bytes.now }
+/// Whether the bytes of a field are one of the keywords that begin a file in the wide grammar, in
+/// letters of either case.
+pub fn is_wide_off_word(bytes: &[u8]) -> bool
+    ensures { result ≡ is_wide_off_word bytes.now }
 {
     let wide = Grammar::Wide;
     is_word(wide, b"OFF", bytes)

@@ -7,7 +7,7 @@ use Rattle.complex_mesh.specs.declared.fault.MeshFault.{MeshFault}
 use Rattle.complex_mesh.specs.declared.fault.MeshFault.TheVariants as fault
 use Rattle.node_files.specs.declared.limits.Limits.{Limits}
 use Rattle.run_steps.proofs.Steps.{and_then_refuses}
-use Rattle.run_steps.specs.Codes.{status_of_fault}
+use Rattle.run_steps.specs.Faults.{status_of_fault}
 use Rattle.run_steps.specs.Meshing.{MeshAnswer, MeshOf, OutputsAnswer}
 use Rattle.run_steps.specs.Reading.{IsRead, IsUnfetched}
 use Rattle.run_steps.specs.Steps.{AndThen}

@@ -17,7 +17,7 @@ use Rattle.node_files.proofs.Folds.{names_long}
 use Rattle.node_files.specs.declared.limits.Limits.{Limits}
 use Rattle.run_steps.proofs.Once.{bound_once, meshed_same}
 use Rattle.run_steps.proofs.Steps.{status_of, IsDecided}
-use Rattle.run_steps.specs.Codes.{status_of_fault, status_of_weights}
+use Rattle.run_steps.specs.Faults.{status_of_fault, status_of_weights}
 use Rattle.run_steps.specs.Meshing.{mesh_options, IsFlatRefusal, MeshOf, PointsMeshOf}
 use Rattle.run_steps.specs.Steps.{forced_answer}
 use Rattle.run_steps.specs.declared.input.Input.{Input}

@@ -11,7 +11,7 @@ use Rattle.tetgen_run.specs.Ends.{FinishesSo, IsToldAs, StopsSo, answer_of}
 use Rattle.tetgen_run.specs.declared.stop.Stop.{Stop}
 use Rattle.tetgen_run.specs.declared.stop.Stop.TheVariants.{Refused, Unwritten, Unsummed, NoMemory as Wanting}
 use Rattle.refining.specs.declared.watch.Round.{Round}
-use Rattle.run_steps.specs.Messages.{message_of}
+use Rattle.run_steps.specs.Statuses.{message_of}
 use Rattle.tetfit_run.specs.Messages.{fit_message, tetfit_name}
 use Rattle.tetfit_run.specs.Said.{said_both}
 use Rattle.tetfit_run.specs.declared.request.Request.{Request}

@@ -3,12 +3,11 @@ use Rattle.std.specs.Prelude.{◌≡◌, ℕ, ◌&&◌, nat_le, not, Bool, lengt
 use Rattle.std.specs.Char.{is_ascii_alphabetic, is_ascii_graphic}
 use Rattle.std.specs.Fmt.{decimal}
 use Rattle.std.specs.List.{list_all, list_any}
-use Rattle.std.specs.Str.{str_eq_ignore_ascii_case}
 use Rattle.command_words.specs.declared.options.Extension.{Extension}
 use Rattle.command_words.specs.declared.options.Extension.TheVariants.{Off}
 use Rattle.run_steps.specs.declared.status.Status.{Status}
 use Rattle.run_steps.specs.declared.status.Status.TheVariants.{BadText}
-use Rattle.soup_files.specs.Off.{off_words}
+use Rattle.soup_files.specs.Off.{is_wide_off_word}
 use Rattle.tet_ports.specs.Files.{Holds}
 use Rattle.tet_ports.specs.Seen.{FolderSeen}
 use Rattle.tet_text.specs.Lines.{ContentLine, content_lines}
@@ -19,13 +18,9 @@ use Rattle.tet_text.specs.Reading.{Fields}
 abbrev pub is_plain_word : List ℕ → Bool
 is_plain_word word = nat_le (length word) 20 && list_all is_ascii_graphic word && list_any is_ascii_alphabetic word
 
--- a keyword of an `.off` file, in letters of either case
-abbrev pub is_off_word : List ℕ → Bool
-is_off_word word = list_any (str_eq_ignore_ascii_case word) off_words
-
 -- a word that can be told and is no keyword of an `.off` file
 abbrev pub is_unread_word : List ℕ → Bool
-is_unread_word word = is_plain_word word && not (is_off_word word)
+is_unread_word word = is_plain_word word && not (is_wide_off_word word)
 
 -- the line that the word is not read, on a line of the file with this name
 abbrev pub unread_front : List ℕ → ℕ → List ℕ

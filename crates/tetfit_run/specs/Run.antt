@@ -27,7 +27,8 @@ use Rattle.run_steps.specs.declared.status.LimitKind.TheVariants.{Grid}
 use Rattle.run_steps.specs.declared.status.Status.{Status}
 use Rattle.run_steps.specs.declared.status.Status.TheVariants.{Done, BadText, Empty, Limit, Flat, NoMemory}
 use Rattle.tet_ports.specs.Files.{Files}
-use Rattle.tetgen_run.specs.Ends.{AnswersBy, HasNoFault, LeavesBy, TellsBy, names_points}
+use Rattle.tetgen_run.specs.Ends.{AnswersBy, HasNoFault, LeavesBy, TellsBy}
+use Rattle.run_steps.specs.Statuses.{names_points}
 use Rattle.tetgen_run.specs.Run.{IsMeshBy}
 use Rattle.tetgen_run.specs.declared.stop.Stop.{Stop}
 use Rattle.tetgen_run.specs.declared.stop.Stop.TheVariants.{Refused, NoMemory as Wanting}

@@ -4,7 +4,8 @@ ghost use Rattle.std.specs.Prelude.{◌≡◌, false, IfOk, IfErr, Ok};
 ghost use Rattle.tet_ports.specs.Seen.{IsOnlyRead, folder_seen};
 ghost use Rattle.tetfit_run.specs.Checks.{OutputsOfCheck, checked_outputs, reported};
 ghost use Rattle.tetfit_run.specs.Words.{others};
-ghost use Rattle.tetgen_run.specs.Ends.{StopsSo, names_points};
+ghost use Rattle.tetgen_run.specs.Ends.{StopsSo};
+ghost use Rattle.run_steps.specs.Statuses.{names_points};
 
 use crate::check_words::{asks_quiet, check_base, check_fault};
 use crate::request::other_words;

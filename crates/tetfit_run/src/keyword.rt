@@ -4,11 +4,12 @@ ghost use Rattle.std.specs.Prelude.{◌≡◌, ◌++◌, IfOk, OnOk};
 ghost use Rattle.std.specs.Char.{is_ascii_alphabetic, is_ascii_graphic};
 ghost use Rattle.std.specs.List.{list_all, list_any};
 ghost use Rattle.tet_text.specs.Lines.{content_lines};
-ghost use Rattle.tetfit_run.specs.Keyword.{is_off_word, is_plain_word, is_unread_word, keyword_text};
+ghost use Rattle.tetfit_run.specs.Keyword.{is_plain_word, is_unread_word, keyword_text};
 ghost use Rattle.tetfit_run.specs.Keyword.{unread_field, unread_front, unread_line, unread_text};
 
 use command_words::Extension;
 use mesh_check::append_number;
+use soup_files::is_wide_off_word;
 use std::alloc::Global;
 use tet_ports::{Bytes, Name, NoMemory};
 use tet_text::{Fields, Lines};
@@ -38,25 +39,11 @@ fn is_plain_word(word: &[u8]) -> bool
     word.len() <= MOST_BYTES && is_printing(word) && has_letter(word)
 }
 
-/// Whether the word is a keyword of an `.off` file, in letters of either case.
-fn is_off_word(word: &[u8]) -> bool
-    ensures { result ≡ is_off_word word.now }
-{
-    word.eq_ignore_ascii_case(b"OFF")
-        || word.eq_ignore_ascii_case(b"COFF")
-        || word.eq_ignore_ascii_case(b"NOFF")
-        || word.eq_ignore_ascii_case(b"CNOFF")
-        || word.eq_ignore_ascii_case(b"STOFF")
-        || word.eq_ignore_ascii_case(b"STCOFF")
-        || word.eq_ignore_ascii_case(b"STNOFF")
-        || word.eq_ignore_ascii_case(b"STCNOFF")
-}
-
 /// Whether the word can be told and is no keyword of an `.off` file.
 fn is_unread_word(word: &[u8]) -> bool
     ensures { result ≡ is_unread_word word.now }
 {
-    is_plain_word(word) && !is_off_word(word)
+    is_plain_word(word) && !is_wide_off_word(word)
 }
 
 /// Appends a line of the file with this name, as its front.

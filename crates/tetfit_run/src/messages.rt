@@ -4,8 +4,7 @@ ghost use Rattle.std.specs.Prelude.{◌≡◌, ◌++◌, IfOk, OnOk};
 ghost use Rattle.tet_ports.specs.Seen.{sink_seen};
 ghost use Rattle.tetfit_run.specs.Words.{others, request_of};
 ghost use Rattle.tetgen_run.specs.Ends.{IsToldAs};
-ghost use Rattle.tetfit_run.specs.Messages.{check_message, fit_message, has_hint, help_of, help_of_budget, help_of_limit, hint_in};
-ghost use Rattle.tetfit_run.specs.Messages.{line_of, mesh_message};
+ghost use Rattle.tetfit_run.specs.Messages.{check_message, fit_message, help_line, hint_in, line_of, mesh_message};
 
 use crate::request::{Request, other_words, request_of};
 use crate::told::{refused_check_line, refused_line};
@@ -24,54 +23,16 @@ const SUMMARY_FAILED: &[u8] = b"tetfit: summary: write failed\n";
 /// The program's name, as a line begins.
 const NAME: &[u8] = b"tetfit: ";
 
-/// What would help where a limit is passed; for a point off the grid the lines on it tell that.
-fn help_of_limit(what: &LimitKind) -> &'static [u8]
-    ensures { result.now ≡ help_of_limit what.now }
+/// Appends a line on what would help, where something does.
+fn append_help(line: &mut Bytes, help: &[u8]) -> Result<(), NoMemory>
+    ensures { OnOk result (line.new ≡ line.old ++ help_line help.now) }
 {
-    match what {
-        LimitKind::Grid { line: _ } => b"",
-        LimitKind::Corners {
-            line: _,
-            count: _,
-            most: _,
-        } => b"tetfit: cut the facet in parts\n",
-        _ => b"tetfit: cut the model in parts\n",
+    if help.is_empty() {
+        return Ok(());
     }
-}
-
-/// What would help where all `made` points that were allowed were added.
-fn help_of_budget(made: u32) -> &'static [u8]
-    ensures { result.now ≡ help_of_budget made }
-{
-    if made < 100_000 {
-        b"tetfit: allow more added points by -S\n"
-    } else {
-        b"tetfit: cut the model in parts\n"
-    }
-}
-
-/// One more line, on what would help; empty where nothing is known to, or where the lines before it
-/// say it.
-fn help_of(status: &Status) -> &'static [u8]
-    ensures { result.now ≡ help_of status.now }
-{
-    match status {
-        Status::Missing { name: _ } => {
-            b"tetfit: the file of a model is .node, .poly, .smesh, .off or .stl: give its name whole\n"
-        }
-        Status::Limit { what } => help_of_limit(what),
-        Status::Flat => b"tetfit: four points that are not in one plane are wanted\n",
-        Status::NotFlat { facet: _, four: _ } => b"tetfit: cut the facet in triangles\n",
-        Status::Crossing { one: _, two: _ } => {
-            b"tetfit: give both parts the points in which they meet, or drop one of equal ones\n"
-        }
-        Status::GridEnd { piece: _ } => {
-            b"tetfit: move apart what is near the segment, or turn sharp corners wider\n"
-        }
-        Status::BudgetEnd { made, piece: _ } => help_of_budget(*made),
-        Status::NoFill { anomaly: _ } => b"tetfit: move the points of these facets apart\n",
-        _ => b"",
-    }
+    line.append(NAME)?;
+    line.append(help)?;
+    line.append(b"\n")
 }
 
 /// The line of a refusal, from all words of the command, `-V` included. A point off the grid and
@@ -97,32 +58,11 @@ fn line_of(
     }
 }
 
-/// Whether lines on the model follow: on a keyword, on a segment, on crossing parts, on a point off
-/// the grid, on points in one plane, on rounded coordinates, or on an open side.
-fn has_hint(status: &Status) -> bool
-    ensures { result ≡ has_hint status.now }
-{
-    match status {
-        Status::BadText { name: _, fault: _ } => true,
-        Status::Limit {
-            what: LimitKind::Grid { line: _ },
-        } => true,
-        Status::Flat => true,
-        Status::Empty => true,
-        Status::NotFlat { facet: _, four: _ } => true,
-        Status::SegmentsCross { one: _, two: _ } => true,
-        Status::Crossing { one: _, two: _ } => true,
-        Status::GridEnd { piece: _ } => true,
-        Status::BudgetEnd { made: _, piece: _ } => true,
-        _ => false,
-    }
-}
-
 /// Appends the lines on the model, where the refusal has them.
 fn append_hint(line: &mut Bytes, hint: &[u8], status: &Status) -> Result<(), NoMemory>
     ensures { OnOk result (line.new ≡ line.old ++ hint_in hint.now status.now) }
 {
-    if has_hint(status) {
+    if status.has_hint() {
         line.append(hint)?;
     }
     Ok(())
@@ -159,7 +99,7 @@ fn mesh_message(
 {
     let mut line = line_of(alloc, words, by, status)?;
     append_hint(&mut line, hint, status)?;
-    line.append(help_of(status))?;
+    append_help(&mut line, status.help())?;
     Ok(line)
 }
 

@@ -14,7 +14,8 @@ use Rattle.run_steps.specs.declared.store.StoreStop.{StoreStop}
 use Rattle.run_steps.specs.declared.store.StoreStop.TheVariants.{Failed, NoMemory as StoreWanting}
 use Rattle.run_steps.specs.Steps.{forced_answer}
 use Rattle.run_steps.proofs.Steps.{IsDecided, IsSame, IsSameBy, status_by}
-use Rattle.tetgen_run.specs.Ends.{AnswersBy, EndsWith, FinishesSo, HasNoFault, IsEarly, IsSummed, IsToldAs, IsUnchanged, LeavesBy, TellsBy, answer_of, names_points, numbering_in}
+use Rattle.tetgen_run.specs.Ends.{AnswersBy, EndsWith, FinishesSo, HasNoFault, IsEarly, IsSummed, IsToldAs, IsUnchanged, LeavesBy, TellsBy, answer_of, numbering_in}
+use Rattle.run_steps.specs.Statuses.{names_points}
 use Rattle.tetgen_run.specs.Stops.{stop_of_store}
 use Rattle.tetgen_run.specs.declared.stop.Stop.{Stop}
 use Rattle.tetgen_run.specs.declared.stop.Stop.TheVariants.{Refused, Unwritten, Unsummed, NoMemory as Wanting}

@@ -6,7 +6,7 @@ use Rattle.command_words.specs.declared.options.Options.{Options}
 use Rattle.complex_mesh.specs.declared.fault.MeshFault.{MeshFault}
 use Rattle.complex_mesh.specs.declared.fault.MeshFault.TheVariants as fault
 use Rattle.run_steps.proofs.Steps.{and_then_refuses}
-use Rattle.run_steps.specs.Codes.{status_of_fault, status_of_weights}
+use Rattle.run_steps.specs.Faults.{status_of_fault, status_of_weights}
 use Rattle.run_steps.specs.Steps.{AndThen}
 use Rattle.run_steps.specs.Meshing.{IsFlatRefusal, MeshAnswer, MeshOf, OutputsAnswer, PointsMeshOf}
 use Rattle.run_steps.specs.declared.mesh.Bound.{Bound}

@@ -5,7 +5,8 @@ use Rattle.tet_ports.specs.Seen.{IsMessagePut, SinkSeen}
 use Rattle.run_steps.specs.declared.numbering.Numbering.{Numbering}
 use Rattle.run_steps.specs.declared.status.Status.{Status}
 use Rattle.run_steps.specs.declared.status.Status.TheVariants.{Done, Empty, WriteFault}
-use Rattle.tetgen_run.specs.Ends.{TellsBy, names_points}
+use Rattle.tetgen_run.specs.Ends.{TellsBy}
+use Rattle.run_steps.specs.Statuses.{names_points}
 
 pub not_true : IsTrue false → ⊥
 not_true t = cc

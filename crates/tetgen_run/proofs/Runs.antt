@@ -17,7 +17,7 @@ use Rattle.geo_laws.proofs.DelaunayList.{triangulation_of_rows, law_delaunay_lis
 use Rattle.node_files.specs.declared.limits.Limits.{Limits}
 use Rattle.path_laws.specs.Flood.{carving_of}
 use Rattle.tet_ports.specs.Files.{Files}
-use Rattle.run_steps.specs.Codes.{status_of_fault, status_of_weights}
+use Rattle.run_steps.specs.Faults.{status_of_fault, status_of_weights}
 use Rattle.run_steps.specs.Numbering.{numbering_of}
 use Rattle.run_steps.specs.Meshing.{OutputsOfRun, BoundAnswer, IsUnbound, PointsMeshOf, MeshOf, MeshAnswer, IsFlatRefusal, OutputsAnswer, MeshedAnswer}
 use Rattle.run_steps.specs.Reading.{WordsAnswer, InputOf, InputAnswer, IsUsage}

@@ -9,7 +9,7 @@ use Rattle.run_steps.specs.Reports.{text_in}
 use Rattle.run_steps.specs.Stores.{in_order, with_files, AreStoredTo, AreStoredInto}
 use Rattle.run_steps.specs.declared.outputs.Outputs.{Outputs}
 use Rattle.run_steps.specs.declared.status.Status.{Status}
-use Rattle.run_steps.specs.declared.status.Status.TheVariants.{Done, NotFlat, SegmentsCross, Crossing, GridEnd, BudgetEnd, NoFill, NoMemory, WriteFault}
+use Rattle.run_steps.specs.declared.status.Status.TheVariants.{Done, NoMemory, WriteFault}
 use Rattle.tetgen_run.specs.declared.stop.Stop.{Stop}
 use Rattle.tetgen_run.specs.declared.stop.Stop.TheVariants.{Refused, Unwritten, Unsummed, NoMemory as Wanting}
 
@@ -75,16 +75,6 @@ LeavesBy P folder out NoMemory = (out.written_now ≡ out.written_before)
 LeavesBy P folder out status = IsUnchanged folder out
 
 -- ---- the message
-
--- the message of the status prints points
-abbrev pub names_points : Status → Bool
-names_points (NotFlat facet four) = true
-names_points (SegmentsCross one two) = true
-names_points (Crossing one two) = true
-names_points (GridEnd piece) = true
-names_points (BudgetEnd made piece) = true
-names_points (NoFill anomaly) = true
-names_points status = false
 
 -- Done has no message. Every other status has its message, by a numbering of the points
 abbrev pub TellsBy : (Option Numbering → Status → List ℕ) → (Status → Option Numbering → Type 0) → SinkSeen → Status → Type 0

@@ -23,7 +23,7 @@ use Rattle.weighted_mesh.specs.Hidden.{hidden_count}
 use Rattle.weighted_mesh.specs.Meshing.{kept_weights}
 use Rattle.tet_ports.specs.Counts.{Rose}
 use Rattle.tet_ports.specs.Files.{Files}
-use Rattle.run_steps.specs.Messages.{message_of}
+use Rattle.run_steps.specs.Statuses.{message_of, names_points}
 use Rattle.run_steps.specs.Numbering.{numbering_of}
 use Rattle.run_steps.specs.declared.numbering.Numbering.{Numbering}
 use Rattle.run_steps.specs.Meshing.{BoundAnswer, MeshAnswer, OutputsOfRun}
@@ -37,7 +37,7 @@ use Rattle.run_steps.specs.declared.meshed.Meshed.{Meshed}
 use Rattle.run_steps.specs.declared.outputs.Outputs.{Outputs}
 use Rattle.run_steps.specs.declared.status.Status.{Status}
 use Rattle.run_steps.specs.declared.status.Status.TheVariants.{Done, Usage, NoMemory, WriteFault}
-use Rattle.tetgen_run.specs.Ends.{AnswersBy, HasNoFault, IsUnchanged, LeavesBy, PartlySummed, TellsBy, answer_of, names_points, with_summary}
+use Rattle.tetgen_run.specs.Ends.{AnswersBy, HasNoFault, IsUnchanged, LeavesBy, PartlySummed, TellsBy, answer_of, with_summary}
 use Rattle.tetgen_run.specs.Stops.{stop_of_check}
 
 -- ---- the check of a mesh

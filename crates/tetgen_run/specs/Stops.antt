@@ -1,9 +1,10 @@
 -- Why a run stopped before its end, by the step in which it did.
 use Rattle.std.specs.Prelude.{None}
+use Rattle.mesh_check.specs.Checking.{most_points}
 use Rattle.mesh_check.specs.Reading.{most_bytes}
 use Rattle.mesh_check.specs.declared.fault.CheckFault.{CheckFault}
 use Rattle.mesh_check.specs.declared.fault.CheckFault.TheVariants as check
-use Rattle.run_steps.specs.declared.status.LimitKind.TheVariants.{Bytes, MeshPoints, Grid}
+use Rattle.run_steps.specs.declared.status.LimitKind.TheVariants.{Bytes, Points, Grid}
 use Rattle.run_steps.specs.declared.status.Status.TheVariants.{Usage, Missing, ReadFault, BadText, Limit, Unsound}
 use Rattle.tetgen_run.specs.declared.stop.Stop.{Stop}
 use Rattle.tetgen_run.specs.declared.stop.Stop.TheVariants.{Refused, Unwritten, NoMemory}
@@ -22,7 +23,7 @@ stop_of_check (check.Missing name) = Refused (Missing name) None
 stop_of_check (check.ReadFault name) = Refused (ReadFault name) None
 stop_of_check (check.BadText name fault) = Refused (BadText name fault) None
 stop_of_check (check.TooLong name) = Refused (Limit (Bytes name most_bytes)) None
-stop_of_check (check.TooMany count) = Refused (Limit (MeshPoints count)) None
+stop_of_check (check.TooMany count) = Refused (Limit (Points count most_points)) None
 stop_of_check (check.OffGrid line) = Refused (Limit (Grid line)) None
 stop_of_check (check.Unsound defect first) = Refused (Unsound defect first) None
 stop_of_check check.NoMemory = NoMemory

@@ -6,7 +6,7 @@ ghost use Rattle.tetgen_run.specs.Stops.{stop_of_words, stop_of_check, stop_of_s
 ghost use Rattle.tetgen_run.specs.declared.stop.Stop.TheVariants.{Refused};
 
 use command_words::WordsFault;
-use mesh_check::{CheckFault, MOST_BYTES};
+use mesh_check::{CheckFault, MOST_BYTES, MOST_POINTS};
 use run_steps::{LimitKind, NamedText, Numbering, Status, StoreStop};
 use tet_ports::NoMemory;
 
@@ -82,7 +82,10 @@ impl From<CheckFault> for Stop {
                 },
             }),
             CheckFault::TooMany { count } => Stop::from(Status::Limit {
-                what: LimitKind::MeshPoints { count },
+                what: LimitKind::Points {
+                    count,
+                    most: MOST_POINTS as usize,
+                },
             }),
             CheckFault::OffGrid { line } => Stop::from(Status::Limit {
                 what: LimitKind::Grid { line },

@@ -1,6 +1,7 @@
 -- The line that each refusal is told in.
 use Rattle.std.specs.Prelude.{ℕ, List, [], ◌++◌, codes}
 use Rattle.std.specs.Fmt.{decimal}
+use Rattle.mesh_check.specs.Checking.{most_points}
 use Rattle.mesh_check.specs.Messages.{line, file_message, usage_message, text_message}
 use Rattle.mesh_check.specs.Telling.{defect_text}
 use Rattle.tetwhere_run.specs.declared.status.WhereLimit.{WhereLimit}
@@ -15,7 +16,7 @@ tetwhere_name = codes "tetwhere: "
 -- the limit of bytes is 2^26
 abbrev pub query_limit_message : WhereLimit → List ℕ
 query_limit_message (Bytes name) = file_message tetwhere_name name (codes "over 67108864 bytes")
-query_limit_message (Points count) = line tetwhere_name (decimal count ++ codes " points, at most 120000")
+query_limit_message (Points count) = line tetwhere_name (decimal count ++ codes " points, at most " ++ decimal most_points)
 query_limit_message (Grid place) = line tetwhere_name (codes "line " ++ decimal place ++ codes ": coordinate off the grid")
 
 -- The message of a refusal, where points and rows are numbered from the first number on; a run that is done has none

@@ -4,7 +4,9 @@ ghost use Rattle.std.specs.Prelude.{◌≡◌, IfOk};
 ghost use Rattle.tetwhere_run.specs.Messages.{query_limit_message, query_message_of};
 
 use crate::status::{WhereLimit, WhereStatus};
-use mesh_check::{append_number, defect_text, file_message, line, text_message, usage_message};
+use mesh_check::{
+    MOST_POINTS, append_number, defect_text, file_message, line, text_message, usage_message,
+};
 use std::alloc::Global;
 use tet_ports::{Bytes, NoMemory};
 
@@ -46,7 +48,8 @@ fn query_limit_message(alloc: Global, what: &WhereLimit) -> Result<Bytes, NoMemo
         WhereLimit::Points { count } => {
             let mut text = Bytes::new(alloc);
             append_number(&mut text, *count as usize)?;
-            text.append(b" points, at most 120000")?;
+            text.append(b" points, at most ")?;
+            append_number(&mut text, MOST_POINTS as usize)?;
             line(alloc, NAME, text.as_slice())
         }
         WhereLimit::Grid { line: place } => {

@@ -1,5 +1,4 @@
--- The exit code of the program, and the statuses of a complex that is on no grid or has no mesh, and of weighted points
--- that have no mesh.
+-- The statuses of a complex that is on no grid or has no mesh, and of weighted points that have no mesh.
 use Rattle.std.specs.Prelude.{ℕ, List}
 use Rattle.complex_mesh.specs.declared.fault.MeshFault.{MeshFault}
 use Rattle.complex_mesh.specs.declared.fault.MeshFault.TheVariants as fault
@@ -7,28 +6,9 @@ use Rattle.plc_files.specs.declared.fault.PlcFault.{PlcFault}
 use Rattle.plc_files.specs.declared.fault.PlcFault.TheVariants as bind
 use Rattle.run_steps.specs.declared.status.LimitKind.TheVariants.{Facets, Corners, Weight}
 use Rattle.run_steps.specs.declared.status.Status.{Status}
-use Rattle.run_steps.specs.declared.status.Status.TheVariants.{Done, Usage, Missing, ReadFault, BadText, Limit, Flat, NotFlat, SegmentsCross, Crossing, GridEnd, BudgetEnd, NoFill, Empty, NoMemory, WriteFault, Unsound}
+use Rattle.run_steps.specs.declared.status.Status.TheVariants.{BadText, Limit, Flat, NotFlat, SegmentsCross, Crossing, GridEnd, BudgetEnd, NoFill, NoMemory}
 use Rattle.weighted_mesh.specs.declared.regular_fault.RegularFault.{RegularFault}
 use Rattle.weighted_mesh.specs.declared.regular_fault.RegularFault.TheVariants as regular
-
-abbrev pub code_of : Status → ℕ
-code_of Done = 0
-code_of (Usage word place) = 1
-code_of (Missing name) = 2
-code_of (ReadFault name) = 3
-code_of (BadText name fault) = 4
-code_of (Limit what) = 5
-code_of Flat = 6
-code_of (NotFlat facet four) = 6
-code_of (SegmentsCross one two) = 6
-code_of (Crossing one two) = 6
-code_of (GridEnd piece) = 7
-code_of (BudgetEnd made piece) = 8
-code_of (NoFill anomaly) = 9
-code_of NoMemory = 10
-code_of (WriteFault name) = 11
-code_of (Unsound defect first) = 13
-code_of Empty = 14
 
 abbrev pub status_of_fault : MeshFault → Status
 status_of_fault fault.Flat = Flat
