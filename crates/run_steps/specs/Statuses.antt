@@ -111,7 +111,6 @@ help_of (Missing name) = codes "the file of a model is .node, .poly, .smesh, .of
 help_of (Limit what) = help_of_limit what
 help_of Flat = codes "four points that are not in one plane are wanted"
 help_of (NotFlat facet four) = codes "cut the facet in triangles"
-help_of (Crossing one two) = codes "give both parts the points in which they meet, or drop one of equal ones"
 help_of (GridEnd piece) = codes "move apart what is near the segment, or turn sharp corners wider"
 help_of (BudgetEnd made piece) = help_of_budget made
 help_of (NoFill anomaly) = codes "move the points of these facets apart"

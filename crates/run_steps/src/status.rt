@@ -144,9 +144,6 @@ impl Status {
             Status::Limit { what } => help_of_limit(what),
             Status::Flat => b"four points that are not in one plane are wanted",
             Status::NotFlat { .. } => b"cut the facet in triangles",
-            Status::Crossing { .. } => {
-                b"give both parts the points in which they meet, or drop one of equal ones"
-            }
             Status::GridEnd { .. } => {
                 b"move apart what is near the segment, or turn sharp corners wider"
             }

@@ -1,5 +1,5 @@
 -- The lines that follow the message on a refused model.
-use Rattle.std.specs.Prelude.{◌≡◌, ℕ, zero, suc, ◌+◌, ◌-◌, min, max, nat_lt, nat_le, ◌==◌, ◌&&◌, Bool, false, length, position, find, map, unwrap_or, slice_index, List, [], ◌∷◌, ◌++◌, codes, Option, Some, None, Ok, Err, if◌then◌else◌}
+use Rattle.std.specs.Prelude.{◌≡◌, ℕ, zero, suc, ◌+◌, ◌-◌, min, max, nat_lt, nat_le, ◌==◌, ◌&&◌, Bool, true, false, length, position, find, map, unwrap_or, slice_index, List, [], ◌∷◌, ◌++◌, codes, Option, Some, None, Ok, Err, if◌then◌else◌}
 use Rattle.std.specs.Fmt.{decimal}
 use Rattle.std.specs.List.{list_any}
 use Rattle.std.specs.Option.{option_map_or}
@@ -174,6 +174,23 @@ TellsRounded limits options input by piece lines =
 abbrev pub parts_text : Options → List DecimalPoint → Numbering → Part → Part → List ℕ
 parts_text options points by one two = part_line points by one ++ part_line points by two ++ rounding_text options points
 
+-- the file has more decimals than the coordinates were rounded to
+abbrev pub is_rounded : Option ℕ → ℕ → Bool
+is_rounded None most = false
+is_rounded (Some m) most = nat_lt m most
+
+-- what would help two parts that cross once coordinates are rounded, or as they are in the file
+abbrev pub parts_help : Bool → List ℕ
+parts_help false = codes "tetfit: give both parts the points in which they meet, or drop one of equal ones\n"
+parts_help true =
+    codes "tetfit: if they meet in the file, give both the points in which they do, or drop one of equal ones\n"
+    ++ codes "tetfit: if not, rounding made them meet: move them apart, or try other decimals by --decimals=M\n"
+
+-- the lines of two parts that cross, with what would help
+abbrev pub crossing_text : Options → List DecimalPoint → Numbering → Part → Part → List ℕ
+crossing_text options points by one two =
+    parts_text options points by one two ++ parts_help (is_rounded options.decimals (most_decimals points))
+
 -- the lines of two segments, with what would help
 abbrev pub TellsSegments : Options → List DecimalPoint → Numbering → Piece → Piece → List ℕ → Type 0
 TellsSegments options points by one two lines =
@@ -186,7 +203,7 @@ abbrev pub IsHintBy : Limits → Options → Input → Numbering → Status → 
 IsHintBy limits options input by Flat lines = lines ≡ flat_text options input.nodes.decimals
 IsHintBy limits options input by (NotFlat facet four) lines = lines ≡ rounding_text options input.nodes.decimals
 IsHintBy limits options input by (SegmentsCross one two) lines = TellsSegments options input.nodes.decimals by one two lines
-IsHintBy limits options input by (Crossing one two) lines = lines ≡ parts_text options input.nodes.decimals by one two
+IsHintBy limits options input by (Crossing one two) lines = lines ≡ crossing_text options input.nodes.decimals by one two
 IsHintBy limits options input by (GridEnd piece) lines = TellsRounded limits options input by piece lines
 IsHintBy limits options input by (BudgetEnd made piece) lines = TellsSegment limits options input by piece lines
 IsHintBy limits options input by status lines = lines ≡ []

@@ -80,9 +80,9 @@ pub(crate) fn next_tried(
     next
 }
 
-/// The greatest coordinate of a model whose mesh is refined, in units of its decimals: eight
+/// The greatest coordinate of a model whose mesh is refined, in units of its decimals: eleven
 /// halvings of the grid are left to added points.
-const FINE: u64 = 1 << 21;
+const FINE: u64 = 1 << 18;
 
 /// The number of decimals at which the mesh is refined, in place of `decimals`: as many where a
 /// number is given, and else the greatest that leaves halvings of the grid to added points.
@@ -97,7 +97,7 @@ pub(crate) fn refined_decimals(options: &Options, points: &[DecimalPoint], decim
     }
 }
 
-/// Of the numbers of decimals up to `decimals` the greatest at which no coordinate is over 2^21
+/// Of the numbers of decimals up to `decimals` the greatest at which no coordinate is over 2^18
 /// units, so that the grid has halvings left for added points; or `decimals`, where there is none.
 fn coarse_decimals(origin: Option<WholePoint>, points: &[DecimalPoint], decimals: u32) -> u32
     requires { IfSome origin (IsNear decimals) }

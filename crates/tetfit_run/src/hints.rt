@@ -2,10 +2,12 @@
 //! fault, and the decimals to which coordinates were rounded.
 
 ghost use Rattle.std.specs.Prelude.{◌≡◌, ◌≤◌, ◌++◌, length, Some, IfOk, IfSome, OnOk};
+ghost use Rattle.grid_coords.specs.Choice.{most_decimals};
 ghost use Rattle.grid_coords.specs.Origins.{IsNear};
 ghost use Rattle.node_files.specs.Limits.{AreIndexable};
 ghost use Rattle.run_steps.specs.Reading.{IsSound};
 ghost use Rattle.tetfit_run.specs.Hints.{hinted_facet_text, first_facet, grid_hint, parts_text};
+ghost use Rattle.tetfit_run.specs.Hints.{crossing_text, is_rounded, parts_help};
 ghost use Rattle.tetfit_run.specs.Hints.{flat_line, flat_text, half_unit, moved_line, moved_text};
 ghost use Rattle.tetfit_run.specs.Hints.{rounded_line, rounded_text, rounding_text};
 ghost use Rattle.tetfit_run.specs.Hints.{segment_line, HasPoints, IsHint, IsHintBy, IsLineOf};
@@ -248,6 +250,47 @@ fn parts_hint(
     Ok(text)
 }
 
+/// Whether the points of the file have more decimals than coordinates were rounded to.
+fn is_rounded(options: &Options, points: &[DecimalPoint]) -> bool
+    ensures { result ≡ is_rounded options.now.decimals (most_decimals points.now) }
+{
+    match options.decimals {
+        Some(decimals) => decimals < most_decimals(points),
+        None => false,
+    }
+}
+
+/// What would help two parts that cross once coordinates are rounded, or as they are in the file.
+fn parts_help(rounded: bool) -> &'static [u8]
+    ensures { result.now ≡ parts_help rounded }
+{
+    if rounded {
+        b"tetfit: if they meet in the file, give both the points in which they do, \
+          or drop one of equal ones\n\
+          tetfit: if not, rounding made them meet: move them apart, \
+          or try other decimals by --decimals=M\n"
+    } else {
+        b"tetfit: give both parts the points in which they meet, or drop one of equal ones\n"
+    }
+}
+
+/// The lines of two crossing parts, and what would help them.
+fn crossing_hint(
+    alloc: Global,
+    trial: &Trial,
+    by: &Numbering,
+    one: Part,
+    two: Part,
+) -> Result<Bytes, NoMemory>
+    ensures { IfOk result (λ lines. lines
+        ≡ crossing_text trial.now.options trial.now.input.nodes.decimals by.now one two) }
+{
+    let points = trial.input.nodes.decimals.as_slice();
+    let mut text = parts_hint(alloc, trial, by, one, two)?;
+    text.append(parts_help(is_rounded(trial.options, points)))?;
+    Ok(text)
+}
+
 /// The lines of two crossing segments, and what would help them.
 fn segments_hint(
     alloc: Global,
@@ -278,7 +321,7 @@ fn hint_by(alloc: Global, trial: &Trial, by: &Numbering, status: &Status) -> Res
         Status::Flat => flat_hint(alloc, trial),
         Status::NotFlat { facet: _, four: _ } => rounding_hint(alloc, trial),
         Status::SegmentsCross { one, two } => segments_hint(alloc, trial, by, *one, *two),
-        Status::Crossing { one, two } => parts_hint(alloc, trial, by, *one, *two),
+        Status::Crossing { one, two } => crossing_hint(alloc, trial, by, *one, *two),
         Status::GridEnd { piece } => rounded_segment_hint(alloc, trial, by, *piece),
         Status::BudgetEnd { made: _, piece } => segment_hint(alloc, trial, by, *piece),
         _ => Ok(Bytes::new(alloc)),
