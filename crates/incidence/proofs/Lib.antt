@@ -11,3 +11,5 @@ pub mod Settled
 pub mod SortedRuns
 pub mod Turns
 pub mod Chained
+pub mod Found
+pub mod Polygons

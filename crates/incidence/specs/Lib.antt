@@ -6,3 +6,4 @@ pub mod Pairs
 pub mod Runs
 pub mod Uses
 pub mod Chains
+pub mod Found

@@ -20,7 +20,7 @@ use Rattle.facet_laws.proofs.Chains.{all_at}
 use Rattle.facet_laws.proofs.Pieces.{points_differ}
 use Rattle.facet_laws.proofs.PlaneOf.{none_passes, some_passes}
 use Rattle.facet_laws.proofs.SamePlane.{point_to_triangle}
-use Rattle.piece_set.proofs.Found.{SameEnds, same_of}
+use Rattle.incidence.proofs.Found.{SameEnds, same_of}
 use Rattle.simplex_meets.proofs.Facets.{law_spans}
 use Rattle.merged_facets.specs.Merged.{has_span, alike_turned, places_of}
 use Rattle.merged_facets.specs.Beside.{one_facet, two_facet, is_off, AreBeside, not_below, not_above, LieInPlane, LieBeside, LieAcross, HasSideOnce, IsSideAmong, IsOffCorner}

@@ -7,7 +7,7 @@ use Rattle.geo_laws.specs.Segment.{piece, sides}
 use Rattle.geo_laws.specs.declared.complex.Piece.{Piece}
 use Rattle.geo_laws.proofs.Members.{IsMember, member_of, contains_of, in_append_left, in_append_right, append_cases, in_map, map_cases}
 use Rattle.merged_facets.specs.Merged.{only_polygon, facet_at}
-use Rattle.piece_set.proofs.Polygons.{sides_before, IsNext, before_more}
+use Rattle.incidence.proofs.Polygons.{sides_before, IsNext, before_more}
 use Rattle.merged_facets.specs.FacetSides.{facet_side, IsFacetSideOf, AreSidesBelow}
 use Rattle.merged_facets.specs.declared.sides.FacetSide.{FacetSide}
 

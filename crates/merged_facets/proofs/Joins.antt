@@ -19,7 +19,7 @@ use Rattle.facet_laws.proofs.FaceIn.{law_meet_order}
 use Rattle.facet_laws.proofs.Chains.{all_at}
 use Rattle.facet_laws.proofs.Pieces.{points_differ, all_sides_tested}
 use Rattle.merged_facets.specs.Merged.{has_span, only_polygon, facet_at, marker_at, no_facet, alike_turned, places_of, MeetsOthers, AreJoined}
-use Rattle.piece_set.proofs.Found.{SameEnds, same_of, of_same, same_sym, same_trans, same_test}
+use Rattle.incidence.proofs.Found.{SameEnds, same_of, of_same, same_sym, same_trans, same_test}
 use Rattle.merged_facets.specs.Beside.{one_facet, is_off, AreBeside, IsSideAmong}
 use Rattle.merged_facets.specs.FacetSides.{IsFacetSideOf}
 use Rattle.merged_facets.specs.declared.sides.FacetSide.{FacetSide}

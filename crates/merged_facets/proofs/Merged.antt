@@ -9,7 +9,7 @@ use Rattle.geo_laws.specs.declared.complex.Piece.{Piece}
 use Rattle.geo_laws.proofs.Members.{IsMember, Found, found_of, member_of, contains_of, both_true, some_true, any_true}
 use Rattle.merged_facets.specs.Merged.{AreJoined, AreChained, alone, onward, IsInner, IsLeastOfGroup, IsMerging, only_polygon, facet_at}
 use Rattle.merged_facets.proofs.FacetGroups.{law_joined_back}
-use Rattle.piece_set.proofs.Found.{same_of}
+use Rattle.incidence.proofs.Found.{same_of}
 use Rattle.merged_facets.specs.Labels.{AreLabels, IsIdentity}
 use Rattle.merged_facets.specs.FacetSides.{facet_side, ends_of, ends_at, AreFacetSidesOf}
 use Rattle.merged_facets.specs.Merging.{Groups, group_of, is_side_of, is_inner, inner_side, IsSoundForest, IsNoted, facet_side_at, AreInnerFound, HasFound}

@@ -10,7 +10,7 @@ use Rattle.geo_laws.specs.declared.complex.Piece.{Piece}
 use Rattle.geo_laws.proofs.Members.{IsMember, here, at_place, member_of, contains_of, both_true, some_true, in_append_left, in_append_right, append_cases, in_cons}
 use Rattle.merged_facets.specs.Merged.{AreJoined, AreChained, alone, onward, IsInner}
 use Rattle.merged_facets.proofs.FacetGroups.{law_joined_back}
-use Rattle.piece_set.proofs.Found.{SameEnds, same_of, by_order}
+use Rattle.incidence.proofs.Found.{SameEnds, same_of, by_order}
 use Rattle.merged_facets.specs.Labels.{IsForest, AreLabels, joined_label}
 use Rattle.merged_facets.specs.FacetSides.{facet_side, ends_of, ends_at, IsPair, AreFacetSidesOf, IsLastBefore}
 use Rattle.merged_facets.specs.Merging.{inner_side, WithInner, IsNoted, Grows, NotesPair, facet_side_at, IsBehind, AreNotedBehind, AreInnerFound, HasFound}

@@ -13,7 +13,7 @@ use Rattle.facet_laws.proofs.Facets.{all_append, all_in}
 use Rattle.facet_laws.proofs.Chains.{all_at, all_sides as sides_all}
 use Rattle.facet_laws.proofs.Pieces.{points_differ}
 use Rattle.merged_facets.specs.Merged.{MeetsOthers}
-use Rattle.piece_set.proofs.Polygons.{sides_before, IsNext, before_more, all_sides}
+use Rattle.incidence.proofs.Polygons.{sides_before, IsNext, before_more, all_sides}
 use Rattle.simplex_meets.specs.Proper.{IsSegment}
 use Rattle.merged_facets.specs.Beside.{IsSideAmong, HasSideOnce}
 

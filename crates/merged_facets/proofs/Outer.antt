@@ -14,9 +14,9 @@ use Rattle.geo_laws.specs.Segment.{piece, sides}
 use Rattle.geo_laws.specs.declared.complex.Piece.{Piece}
 use Rattle.geo_laws.specs.declared.complex.Facet.{Facet as StoredFacet}
 use Rattle.merged_facets.specs.Merged.{no_facet, outer_sides, merged_segments}
-use Rattle.piece_set.specs.Found.{with_piece, with_pieces}
-use Rattle.piece_set.proofs.Found.{with_pieces-none}
-use Rattle.piece_set.proofs.Polygons.{sides_before, IsNext}
+use Rattle.incidence.specs.Found.{with_piece, with_pieces}
+use Rattle.incidence.proofs.Found.{with_pieces-none}
+use Rattle.incidence.proofs.Polygons.{sides_before, IsNext}
 use Rattle.merged_facets.proofs.Once.{one_more, none_more}
 
 pub append_nil : {X : Type 0} (xs : List X) → xs ++ [] ≡ xs

@@ -2,14 +2,14 @@
 ghost use Rattle.std.specs.Prelude.{◌≡◌, ◌<◌, ◌≤◌, length, filter, flat_map, IfOk, OnOk};
 ghost use Rattle.geo_laws.specs.Complex.{flat_facet};
 ghost use Rattle.geo_laws.specs.Segment.{sides};
+ghost use Rattle.incidence.specs.Found.{with_pieces};
 ghost use Rattle.merged_facets.specs.Merged.{merged_segments, outer_sides};
 ghost use Rattle.merged_facets.specs.Merging.{is_inner};
 ghost use Rattle.merged_facets.specs.Segments.{is_outer};
-ghost use Rattle.piece_set.specs.Found.{with_pieces};
 
 use crate::Merging;
 use geo_laws::{Complex, Facet, Piece, Segments};
-use piece_set::PieceSet;
+use incidence::PieceSet;
 use std::alloc::Global;
 use tet_ports::NoMemory;
 

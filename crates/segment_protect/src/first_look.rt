@@ -2,13 +2,13 @@
 ghost use Rattle.std.specs.Prelude.{◌≡◌, ◌≢◌, ◌^◌, ◌<◌, [], IsTrue, length, All, Contains};
 ghost use Rattle.std.specs.Prelude.{IfOk};
 ghost use Rattle.geo_laws.specs.Delaunay.{numbers};
-ghost use Rattle.piece_set.specs.Found.{with_pieces};
+ghost use Rattle.incidence.specs.Found.{with_pieces};
 ghost use Rattle.segment_protect.specs.Watch.{pieces_of, HasSidesOf, IsSeenOrSide};
 
 use crate::watch::Watched;
 use cavity_insert::{Living, has_corner};
 use geo_laws::{Piece, Pieces, Tet};
-use piece_set::PieceSet;
+use incidence::PieceSet;
 use point_locate::{Shape, shape_of};
 use std::alloc::Global;
 use tet_ports::NoMemory;

@@ -17,8 +17,8 @@ use Rattle.geo_laws.specs.declared.complex.Facet.{Facet}
 use Rattle.geo_laws.specs.declared.complex.Piece.{Piece}
 use Rattle.geo_laws.proofs.Members.{IsMember, there, at_place, contains_of, filter_cases, flat_map_cases, in_append_left, in_append_right, in_cons, in_head, map_cases, range_bounds}
 use Rattle.merged_facets.proofs.Once.{side_ends}
-use Rattle.piece_set.specs.Found.{with_pieces}
-use Rattle.piece_set.proofs.Polygons.{segments_more, all_segments}
+use Rattle.incidence.specs.Found.{with_pieces}
+use Rattle.incidence.proofs.Polygons.{segments_more, all_segments}
 use Rattle.tet_ports.specs.declared.NoMemory.{NoMemory}
 use Rattle.tetfit_run.specs.Sides.{all_sides, first_sides, side_of, sides_at, IsSideOn}
 use Rattle.tetfit_run.specs.declared.sides.FacetSide.{FacetSide}

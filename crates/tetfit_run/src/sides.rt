@@ -11,7 +11,7 @@ ghost use Rattle.tetfit_run.specs.Sides.{is_open, lie_along, side_of, HoldsSide,
 
 use box_tree::{Bounds, Interval, Tree, box_of, joined, next_meeting, point_bounds, tree_of};
 use geo_laws::{Complex, Facet, Piece, Pieces, Points};
-use piece_set::{PieceSet, put_sides};
+use incidence::{PieceSet, put_sides};
 use sign_predicates::{GridPoint, spans_plane};
 use std::alloc::Global;
 use tet_ports::{Items, NoMemory};

@@ -1,6 +1,6 @@
 //! Segments of polygons, and their places.
 use geo_laws::{Piece, Segments};
-use piece_set::{PieceSet, Polygon, Polygons, put_sides, segments_of};
+use incidence::{PieceSet, Polygon, Polygons, put_sides, segments_of};
 use std::alloc::Global;
 use std::test::Fail;
 use tet_ports::NoMemory;

@@ -1,5 +1,5 @@
 use Rattle.std.proofs.Common.{refl, sym, ◌∙◌, arith}
-use Rattle.piece_set.proofs.Polygons.{IsNext}
+use Rattle.incidence.proofs.Polygons.{IsNext}
 use Rattle.merged_facets.proofs.Once.{one_more, none_more, counted_same, counted_other, counted_none, counted_all, refused, not_true, not_met}
 use Rattle.merged_facets.proofs.beside.has_once.Goals as goal
 use Rattle.merged_facets.proofs.beside.has_once.Goals.{then-k-corners, else-k-corners, then-a-b+then-same_ends, then-a-b+else-same_ends+else-not-segments_met, else-a-b}

@@ -1,7 +1,7 @@
 use Rattle.std.proofs.Common.{refl, ap, sym, ◌∙◌, arith}
 use Rattle.std.specs.Prelude.{filter, not}
-use Rattle.piece_set.specs.Found.{with_pieces}
-use Rattle.piece_set.proofs.Polygons.{IsNext, all_sides}
+use Rattle.incidence.specs.Found.{with_pieces}
+use Rattle.incidence.proofs.Polygons.{IsNext, all_sides}
 use Rattle.merged_facets.specs.Segments.{is_outer}
 use Rattle.merged_facets.proofs.Outer.{outer_put, outer_skip, outer_none}
 use Rattle.merged_facets.proofs.segments.put_outer_sides.Goals as goal

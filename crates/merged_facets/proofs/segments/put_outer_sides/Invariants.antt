@@ -1,7 +1,7 @@
 use Rattle.std.proofs.Common.{◌≡◌}
 use Rattle.std.specs.Prelude.{filter}
-use Rattle.piece_set.specs.Found.{with_pieces}
-use Rattle.piece_set.proofs.Polygons.{sides_before}
+use Rattle.incidence.specs.Found.{with_pieces}
+use Rattle.incidence.proofs.Polygons.{sides_before}
 use Rattle.merged_facets.specs.Segments.{is_outer}
 use Rattle.merged_facets.proofs.segments.put_outer_sides.Given as goal
 

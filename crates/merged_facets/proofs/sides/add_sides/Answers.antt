@@ -1,6 +1,6 @@
 use Rattle.std.proofs.Common.{◌++◌, map, refl, ap, ◌∙◌, arith}
 use Rattle.merged_facets.specs.FacetSides.{facet_side}
-use Rattle.piece_set.proofs.Polygons.{IsNext, all_sides}
+use Rattle.incidence.proofs.Polygons.{IsNext, all_sides}
 use Rattle.merged_facets.proofs.FacetSides.{side_added, side_passed}
 use Rattle.merged_facets.proofs.sides.add_sides.Goals as goal
 use Rattle.merged_facets.proofs.sides.add_sides.Goals.{then-k-corners, else-k-corners, then-a-b+in_ok-push, else-a-b}

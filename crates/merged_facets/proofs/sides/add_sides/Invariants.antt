@@ -1,5 +1,5 @@
 use Rattle.std.proofs.Common.{◌≡◌, ◌++◌, map}
-use Rattle.piece_set.proofs.Polygons.{sides_before}
+use Rattle.incidence.proofs.Polygons.{sides_before}
 use Rattle.merged_facets.specs.FacetSides.{facet_side}
 use Rattle.merged_facets.proofs.sides.add_sides.Given as goal
 

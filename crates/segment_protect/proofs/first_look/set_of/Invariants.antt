@@ -1,5 +1,5 @@
 use Rattle.std.proofs.Common.{◌≡◌, [], take}
-use Rattle.piece_set.specs.Found.{with_pieces}
+use Rattle.incidence.specs.Found.{with_pieces}
 use Rattle.segment_protect.proofs.first_look.set_of.Given as goal
 
 -- the pieces so far

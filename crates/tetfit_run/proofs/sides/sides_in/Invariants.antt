@@ -1,7 +1,7 @@
 use Rattle.std.proofs.Common.{◌≡◌, ◌≤◌, ◌-◌, [], take}
 use Rattle.std.specs.Prelude.{flat_map}
 use Rattle.geo_laws.specs.Segment.{sides}
-use Rattle.piece_set.specs.Found.{with_pieces}
+use Rattle.incidence.specs.Found.{with_pieces}
 use Rattle.tetfit_run.proofs.FacetSides.{lists_of}
 use Rattle.tetfit_run.proofs.sides.sides_in.Given as goal
 

@@ -1,8 +1,8 @@
 use Rattle.std.proofs.Common.{ap, ◌∙◌}
 use Rattle.std.specs.Prelude.{position}
 use Rattle.geo_laws.specs.Segment.{same_ends}
-use Rattle.piece_set.proofs.Found.{place_alike}
-use Rattle.piece_set.proofs.set.PieceSet.place_of.Goals as goal
+use Rattle.incidence.proofs.Found.{place_alike}
+use Rattle.incidence.proofs.set.PieceSet.place_of.Goals as goal
 
 pub returns : goal.returns
 returns c =
