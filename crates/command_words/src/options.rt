@@ -56,7 +56,7 @@ pub struct Options {
     pub regions: bool,
     /// No summary.
     pub quiet: bool,
-    /// No `.node` file; so of the sample, as the two below.
+    /// No `.node` file; the sample has none, nor the two files below.
     pub no_node: bool,
     /// No `.ele` file.
     pub no_ele: bool,

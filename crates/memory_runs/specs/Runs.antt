@@ -49,7 +49,7 @@ pub record IsTetgenRun (words : List (List ℕ)) (before after : MemoryFiles) (o
   pub left : IsLeft words (folder_run before after) (stream_run out) status
   pub told : IsTold words (folder_run before after) (stream_run err) status
 
--- `tetfit`: so it is of a model as it is found, and the messages have the stages too, where they are asked for
+-- the run of `tetfit` on a model as it is found; its messages have the stages too, where they are asked for
 pub record IsTetfitRun (words : List (List ℕ)) (before after : MemoryFiles) (out err : MemoryBytes) (status : Status) : Type 0 where
   pub answer : IsFitAnswer words (folder_run before after) (stream_run out) status
   pub complete : IsFitComplete words (folder_run before after) (stream_run out) status

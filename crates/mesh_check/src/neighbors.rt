@@ -26,8 +26,8 @@ fn wrong_corner(listed: Across, across: Across) -> Option<u8>
     None
 }
 
-/// The first tetrahedron with a wrong listed neighbor, and its first corner across whose opposite
-/// face this is so.
+/// The first tetrahedron with a wrong listed neighbor, and its first corner whose opposite face has
+/// that neighbor.
 pub(crate) fn first_wrong_neighbor(
     list: &TetList,
     pairs: &Pairs,

@@ -60,7 +60,7 @@ abbrev pub AreWeighed : Limits → Options → NodeText → Type 0
 AreWeighed limits options nodes =
     (table : NodeTable) → IsSettled limits nodes (grid_options options) table → (weights : List ℤ) × (weights_of table ≡ Ok weights)
 
--- So it is of words that ask for weighted points, where each point has a weight
+-- A run on weighted points, each with a weight, ends well or for want of memory, where nothing outside fails
 abbrev pub WeightsCompleteLaw : Type 0
 WeightsCompleteLaw = (limits : Limits) (words : List (List ℕ)) (folder : FolderSeen) (out : SinkSeen) (told : Files)
     → words_fault words ≡ None → AskForWeights (options_of words) → folder.files_before ≡ Some told

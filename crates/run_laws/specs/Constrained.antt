@@ -20,7 +20,7 @@ abbrev pub ConstrainedOnceLaw : Type 0
 ConstrainedOnceLaw = (ps : List Point) (ts : List FacetTriangle) (rows other : List Tet) → IsWholeMesh ps ts rows → IsWholeMesh ps ts other
     → HasEachPoint ps rows → HasEachPoint ps other → AllPairs RowBefore rows → AllPairs RowBefore other → rows ≡ other
 
--- what is so of the whole list
+-- what the whole list has beyond being a mesh
 pub record IsConstrainedWhole (o : MeshOptions) (ps : List Point) (c : Complex) (m : ComplexMesh) (mesh : IsComplexMesh o ps c m)
     : Type 0 where
   -- each point is a corner of a tetrahedron

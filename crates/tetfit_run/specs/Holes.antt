@@ -8,7 +8,7 @@ use Rattle.run_steps.specs.declared.mesh.Bound.{Bound}
 abbrev pub without_holes : Input → Input
 without_holes input = record input { complex = record input.complex { holes = [] } }
 
--- the same of points and a complex on their grid
+-- the points and the complex on their grid, without hole points
 abbrev pub without_hole_points : Bound → Bound
 without_hole_points bound = record bound { complex = record bound.complex { holes = [] } }
 

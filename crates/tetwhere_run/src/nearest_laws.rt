@@ -13,8 +13,8 @@ pub fn law_held_corner()
     ensures { HeldCornerLaw }
 {}
 
-/// A query that is a point of the mesh, as decimal numbers, is so too where both are measured from
-/// a point with whole coordinates.
+/// A query that is a point of the mesh, as decimal numbers, is that point too where both are
+/// measured from a point with whole coordinates.
 pub fn law_moved_point()
     ensures { MovedPointLaw }
 {}

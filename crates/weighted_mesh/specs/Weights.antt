@@ -53,7 +53,7 @@ all_of [] = Ok []
 all_of (Ok w ∷ others) = weights_behind (w ∷ []) (all_of others)
 all_of (Err fault ∷ others) = Err fault
 
--- the weights of all listed points, or why the first of them that is refused is so
+-- the weights of all listed points, or the fault of the first that is refused
 abbrev pub weights_of : NodeTable → Result (List ℤ) WeightFault
 weights_of table = all_of (map (weight_of table) (all_numbers table.listed))
 

@@ -19,7 +19,7 @@ abbrev pub AreDelaunayAcross : List Point → List FaceRow → Tet → Tet → T
 AreDelaunayAcross ps faces s t =
     (p q : ℕ) → IsShared s t p q → ¬ IsListed faces (face_in s p) → in_sphere (corners ps s) (point ps (point_in t q)) ≤ℤ pos 0
 
--- a mesh whose files say the same of it
+-- a mesh whose neighbors and faces are those of its rows
 pub record IsSoundMesh (m : ReadMesh) : Type 0 where
   -- the rows are positive, and two with a common face lie on different sides of it
   pub apart : AreApart m.points m.rows
@@ -33,6 +33,6 @@ abbrev pub RowsApartLaw : Type 0
 RowsApartLaw = (m : ReadMesh) → ((i : ℕ) → ¬ HasDefect m (NotPositive i)) → ((i j : ℕ) → ¬ HasDefect m (SameSide i j))
     → AreApart m.points m.rows
 
--- A mesh has no defect exactly where its files say the same of it
+-- A mesh has no defect exactly where it is sound
 abbrev pub SoundMeshLaw : Type 0
 SoundMeshLaw = (m : ReadMesh) → IsVerdict m Sound ↔ IsSoundMesh m

@@ -55,7 +55,7 @@ fn are_refused(alloc: Global, nodes: &NodeText) -> bool {
     fault == Some(GridFault::TooMany { count: 2 })
 }
 
-/// Whether both is so.
+/// Whether the two points settle, and are refused where one is allowed.
 fn are_two(alloc: Global) -> Option<(bool, bool)> {
     let nodes = read_node(alloc, &bytes_of(alloc, TWO)?).ok()?;
     Some((are_settled(alloc, &nodes), are_refused(alloc, &nodes)))

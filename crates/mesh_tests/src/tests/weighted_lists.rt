@@ -133,7 +133,7 @@ enum Refusal {
     Flat,
 }
 
-/// Why the text has no mesh, if it is so.
+/// Why the text has no mesh; `None` where it has one.
 fn why_not(alloc: Global, text: &[u8]) -> Option<Refusal> {
     match mesh(alloc, text)?.err()? {
         RegularFault::Text(TextFault { line, kind }) if kind == TextKind::NotANumber => {
