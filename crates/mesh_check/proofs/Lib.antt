@@ -10,3 +10,6 @@ pub mod Listed
 pub mod Windows
 pub mod CornersOn
 pub mod Once
+pub mod Differences
+pub mod FarOnce
+pub mod Wider

@@ -10,3 +10,6 @@ pub mod Messages
 pub mod Reading
 pub mod Checking
 pub mod Telling
+pub mod Moving
+pub mod Centering
+pub mod FarChecking

@@ -1,8 +1,8 @@
 -- What a check answers: its refusals, that it holds over all of a run, and that it has one answer.
 use Rattle.std.proofs.Common.{◌≡◌, ℕ, List, Some, None, Result, Ok, Err, refl, sym, subst, ap, ◌∙◌}
-use Rattle.far_meshes.proofs.Once.{far_once}
-use Rattle.far_meshes.proofs.Wider.{far_wider}
-use Rattle.far_meshes.specs.Checking.{FarCheckAnswer}
+use Rattle.mesh_check.proofs.FarOnce.{far_once}
+use Rattle.mesh_check.proofs.Wider.{far_wider}
+use Rattle.mesh_check.specs.FarChecking.{FarCheckAnswer}
 use Rattle.mesh_check.proofs.Once.{IsDecided as IsCheckDecided}
 use Rattle.mesh_check.specs.declared.fault.CheckFault.{CheckFault}
 use Rattle.mesh_check.specs.declared.fault.CheckFault.TheVariants as check

@@ -5,7 +5,7 @@ use Rattle.geo_laws.specs.Simplex.{ProperlyMet}
 use Rattle.geo_laws.specs.declared.complex.Piece.{Piece}
 use Rattle.grid_coords.specs.declared.points.DecimalPoint.{DecimalPoint}
 use Rattle.mesh_check.specs.Steps.{AndThen}
-use Rattle.far_meshes.specs.Centering.{CenteredAnswer, PlacedAnswer}
+use Rattle.mesh_check.specs.Centering.{CenteredAnswer, PlacedAnswer}
 use Rattle.run_steps.specs.declared.numbering.Numbering.{Numbering}
 
 -- a point as the file has it, by its number on the grid; None for an added point

@@ -3,7 +3,7 @@ use Rattle.std.specs.Prelude.{◌≡◌, ℕ, ◌+◌, ◌-◌, Bool, false, not
 use Rattle.std.specs.List.{list_any, ends_with}
 use Rattle.std.specs.Str.{bytes_eq}
 use Rattle.command_words.specs.Words.{is_name, name_of}
-use Rattle.far_meshes.specs.Checking.{FarCheckAnswer}
+use Rattle.mesh_check.specs.FarChecking.{FarCheckAnswer}
 use Rattle.mesh_check.specs.Telling.{sound_line}
 use Rattle.mesh_check.specs.declared.fault.CheckFault.{CheckFault}
 use Rattle.tet_ports.specs.Seen.{FolderSeen}

@@ -5,10 +5,9 @@ ghost use Rattle.geo_laws.specs.Delaunay.{point};
 ghost use Rattle.tetfit_run.specs.Apart.{crossing_help, end_place, AreApart, AreEndsInFile, ArePlaced, AreSegmentsMet};
 
 use crate::places::file_point;
-use far_meshes::centered_points;
 use geo_laws::{Piece, Points, Side};
 use grid_coords::{DecimalPoint, DecimalPoints};
-use mesh_check::CheckFault;
+use mesh_check::{CheckFault, centered_points};
 use run_steps::Numbering;
 use simplex_meets::segments_met;
 use std::alloc::Global;

@@ -9,8 +9,7 @@ ghost use Rattle.run_steps.specs.Statuses.{names_points};
 
 use crate::check_words::{asks_quiet, check_base, check_fault};
 use crate::request::other_words;
-use far_meshes::check_far_files;
-use mesh_check::sound_line;
+use mesh_check::{check_far_files, sound_line};
 use run_steps::{NamedTexts, Outputs, Report, Status, Texts};
 use std::alloc::Global;
 use tet_ports::{Folder, Name, NoMemory, Words};

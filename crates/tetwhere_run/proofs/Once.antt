@@ -14,9 +14,9 @@ use Rattle.tet_ports.specs.Seen.{FolderSeen}
 use Rattle.mesh_check.specs.Steps.{Gives}
 use Rattle.mesh_check.specs.declared.fault.CheckFault.TheVariants.{Missing, ReadFault, TooLong, BadText, TooMany, OffGrid, Unsound, NoMemory}
 use Rattle.mesh_check.proofs.Once.{IsOnce, IsTold, and_then_once, file_once}
-use Rattle.far_meshes.proofs.Once.{moving_once}
-use Rattle.far_meshes.specs.Centering.{MovedAnswer}
-use Rattle.far_meshes.specs.Moving.{moved_from}
+use Rattle.mesh_check.proofs.FarOnce.{moving_once}
+use Rattle.mesh_check.specs.Centering.{MovedAnswer}
+use Rattle.mesh_check.specs.Moving.{moved_from}
 use Rattle.grid_coords.specs.declared.origin.WholePoint.{WholePoint}
 use Rattle.tetwhere_run.specs.Centering.{CenteredTextAnswer, MovedTextAnswer, origin_for, with_places}
 use Rattle.tetwhere_run.specs.Locating.{SettledAnswer, PositiveAnswer, IsLocatedOnGrid, TextLocated, LocateAnswer, answer_text}

@@ -5,7 +5,7 @@ use Rattle.grid_coords.specs.declared.grid.Grid.{Grid}
 use Rattle.grid_coords.specs.declared.grid.Range.{Range}
 use Rattle.grid_coords.specs.declared.origin.WholePoint.{WholePoint}
 use Rattle.grid_coords.specs.declared.points.DecimalPoint.{DecimalPoint}
-use Rattle.far_meshes.specs.Centering.{MovedAnswer}
+use Rattle.mesh_check.specs.Centering.{MovedAnswer}
 use Rattle.mesh_check.specs.Steps.{AndThen, Gives}
 use Rattle.mesh_check.specs.declared.fault.CheckFault.{CheckFault}
 use Rattle.node_files.specs.LeastGrid.{least_grid_of}

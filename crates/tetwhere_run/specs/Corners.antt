@@ -7,7 +7,7 @@ use Rattle.geo_laws.specs.declared.tetrahedra.Tet.{Tet}
 use Rattle.grid_coords.specs.Origins.{moved_point}
 use Rattle.grid_coords.specs.declared.origin.WholePoint.{WholePoint}
 use Rattle.grid_coords.specs.declared.points.DecimalPoint.{DecimalPoint}
-use Rattle.far_meshes.specs.Moving.{is_short_from}
+use Rattle.mesh_check.specs.Moving.{is_short_from}
 use Rattle.row_cells.specs.Parts.{ArePositiveOn}
 use Rattle.row_cells.specs.Where.{first_holding}
 use Rattle.tetwhere_run.specs.Locating.{IsSettledMesh}

@@ -7,9 +7,8 @@ ghost use Rattle.tetwhere_run.specs.Centering.{origin_for, CenteredTextAnswer, M
 
 use crate::reading::WhereText;
 use crate::settling::GRID;
-use far_meshes::moved_points;
 use grid_coords::{DecimalPoints, WholePoint, origin_of};
-use mesh_check::CheckFault;
+use mesh_check::{CheckFault, moved_points};
 use node_files::least_grid;
 use std::alloc::Global;
 

@@ -1,7 +1,6 @@
 //! The check of meshes that stand far from zero, over a folder in memory.
 
-use far_meshes::check_far_files;
-use mesh_check::{CheckFault, Defect};
+use mesh_check::{CheckFault, Defect, check_far_files};
 use std::alloc::Global;
 use std::test::Fail;
 use tet_ports::{Bytes, MemFolder, Name, NoMemory};

@@ -1,6 +1,6 @@
 use Rattle.std.proofs.Common.{◌≡◌, ◌∙◌, List, None, Ok, Err, ℕ, sym, subst}
 use Rattle.std.proofs.lemmas.Result.{err_from_is_err_and}
-use Rattle.far_meshes.specs.Checking.{FarCheckAnswer}
+use Rattle.mesh_check.specs.FarChecking.{FarCheckAnswer}
 use Rattle.tet_ports.specs.Seen.{FolderSeen, folder_seen}
 use Rattle.tetfit_run.specs.Checks.{check_base, check_fault, checked_outputs}
 use Rattle.tetfit_run.proofs.CheckedRuns.{fault_stops}

@@ -1,3 +1,0 @@
-pub mod Moving
-pub mod Centering
-pub mod Checking

@@ -1,8 +1,0 @@
-//! What is true of moved coordinates.
-
-ghost use Rattle.far_meshes.specs.Moving.{MovedLaw};
-
-/// A coordinate less that of an origin is exactly that difference, where it has at most 36 digits.
-pub fn law_moved()
-    ensures { MovedLaw }
-{}
