@@ -21,7 +21,7 @@ use Rattle.node_files.proofs.Folds.{names_with_long}
 use Rattle.node_files.specs.Folding.{IsFolded, names_with}
 use Rattle.node_files.specs.declared.limits.Limits.{Limits}
 use Rattle.node_files.specs.declared.table.NodeTable.{NodeTable}
-use Rattle.regular_laws.specs.Regular.{IsRegularList}
+use Rattle.weighted_mesh.specs.Regular.{IsRegularList}
 use Rattle.run_steps.proofs.Meshables.{begins}
 use Rattle.run_steps.specs.Meshing.{BoundAnswer, MeshAnswer, MeshOf, PointsMeshOf, mesh_options, mesh_on, mesh_of_complex, without_decimals}
 use Rattle.run_steps.specs.Outputs.{first_of}

@@ -18,7 +18,7 @@ use Rattle.node_files.specs.declared.limits.Limits.{Limits}
 use Rattle.node_files.specs.declared.table.NodeTable.{NodeTable}
 use Rattle.path_laws.specs.Flood.{carving_of}
 use Rattle.weighted_mesh.specs.Weights.{weights_of}
-use Rattle.regular_laws.specs.Regular.{IsRegularList}
+use Rattle.weighted_mesh.specs.Regular.{IsRegularList}
 use Rattle.weighted_mesh.specs.Hidden.{hidden_count}
 use Rattle.weighted_mesh.specs.Meshing.{kept_weights}
 use Rattle.tet_ports.specs.Counts.{Rose}

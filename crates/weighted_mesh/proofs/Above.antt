@@ -6,8 +6,8 @@ use Rattle.geo_laws.specs.declared.tetrahedra.Tet.{Tet as Row}
 use Rattle.geo_laws.proofs.Corners.{on_of_corners}
 use Rattle.geo_laws.proofs.Places.{number}
 use Rattle.insert_laws.specs.LowestInsertion.{HasAbove}
-use Rattle.regular_laws.specs.Regular.{weighted_lift, is_weighted_outside}
-use Rattle.regular_laws.proofs.Weighted.{law_weighted_lift}
+use Rattle.weighted_mesh.specs.Regular.{weighted_lift, is_weighted_outside}
+use Rattle.weighted_mesh.proofs.Weighted.{law_weighted_lift}
 use Rattle.cavity_insert.specs.Lift.{IsRowFor}
 
 pub above_of : (ps : List Point) (ws : List ℤ) (t : Row) (p : ℕ) (b : Bool) → IsRowFor ps t p → b ≡ is_weighted_outside ps ws t p → IsTrue b ↔ HasAbove (weighted_lift ps ws) ps t p

@@ -18,8 +18,8 @@ use Rattle.node_files.proofs.Folds.{name_below, names_long}
 use Rattle.weighted_mesh.specs.Weights.{weight_of, weights_behind, all_of, weights_of}
 use Rattle.weighted_mesh.specs.declared.weight_fault.WeightFault.{WeightFault}
 use Rattle.weighted_mesh.specs.declared.weight_fault.WeightFault.TheVariants as read
-use Rattle.regular_laws.specs.Regular.{weight, AreWeightsOf, IsRegularList}
-use Rattle.regular_laws.proofs.Weighted.{law_weighted_cover, law_no_weights}
+use Rattle.weighted_mesh.specs.Regular.{weight, AreWeightsOf, IsRegularList}
+use Rattle.weighted_mesh.proofs.Weighted.{law_weighted_cover, law_no_weights}
 use Rattle.weighted_mesh.specs.Hidden.{hidden_count}
 use Rattle.weighted_mesh.specs.Laws.{RegularListLaw, OneAnswerLaw}
 use Rattle.weighted_mesh.specs.Meshing.{kept_weights, IsRegularMeshOf, HasNoRegularMesh}

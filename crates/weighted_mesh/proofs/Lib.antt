@@ -1,3 +1,5 @@
+pub mod Votes
+pub mod Weighted
 pub mod Above
 pub mod Rows
 pub mod ListedWeights

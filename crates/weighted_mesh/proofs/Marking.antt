@@ -6,7 +6,7 @@ use Rattle.std.proofs.lemmas.List.Sums.{sum_by-cons}
 use Rattle.geo_laws.specs.Delaunay.{numbers, has_corner}
 use Rattle.geo_laws.specs.declared.tetrahedra.Tet.{Tet}
 use Rattle.geo_laws.proofs.Members.{some_true, any_true, contains_of, member_of, found_of}
-use Rattle.regular_laws.specs.Regular.{IsHiddenPoint}
+use Rattle.weighted_mesh.specs.Regular.{IsHiddenPoint}
 use Rattle.weighted_mesh.specs.Hidden.{is_corner_of_none, hidden_count}
 use Rattle.geo_laws.specs.Marks.{is_marked}
 

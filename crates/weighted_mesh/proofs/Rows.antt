@@ -5,8 +5,8 @@ use Rattle.sign_predicates.specs.Point.{Point}
 use Rattle.sign_predicates.specs.Orientation.{IsPositive}
 use Rattle.geo_laws.specs.Arrangement.{IsEvenOf, HasLeastFirst, HasLeastSecond}
 use Rattle.geo_laws.specs.Delaunay.{corners, all_numbers, IsOn, IsArranged}
-use Rattle.regular_laws.specs.Regular.{weighted_lift, IsRegularList}
-use Rattle.regular_laws.proofs.Weighted.{law_regular_row}
+use Rattle.weighted_mesh.specs.Regular.{weighted_lift, IsRegularList}
+use Rattle.weighted_mesh.proofs.Weighted.{law_regular_row}
 use Rattle.std.specs.List.{slice_index_or}
 use Rattle.std.proofs.lemmas.List.Elements.{Contains-get_or}
 use Rattle.geo_laws.specs.Height.{IsLowestAmong}

@@ -4,7 +4,7 @@ use Rattle.sign_predicates.specs.Point.{Point}
 use Rattle.geo_laws.specs.Laws.{IsTriangulation}
 use Rattle.geo_laws.specs.declared.tetrahedra.Tet.{Tet}
 use Rattle.node_files.specs.declared.table.NodeTable.{NodeTable}
-use Rattle.regular_laws.specs.Regular.{IsRegularList, IsHiddenPoint}
+use Rattle.weighted_mesh.specs.Regular.{IsRegularList, IsHiddenPoint}
 use Rattle.weighted_mesh.specs.Hidden.{is_corner_of_none}
 use Rattle.weighted_mesh.specs.Meshing.{RegularAnswer}
 use Rattle.weighted_mesh.specs.declared.regular_fault.RegularFault.{RegularFault}

@@ -1,3 +1,5 @@
+pub mod Regular
+pub mod WeightedLaws
 pub mod Sites
 pub mod Weights
 pub mod Hidden

@@ -7,7 +7,7 @@ use Rattle.node_files.specs.declared.table.NodeTable.{NodeTable}
 use Rattle.weighted_mesh.specs.Weights.{weights_of}
 use Rattle.weighted_mesh.specs.declared.weight_fault.WeightFault.{WeightFault}
 use Rattle.weighted_mesh.specs.declared.weight_fault.WeightFault.TheVariants as read
-use Rattle.regular_laws.specs.Regular.{weight, IsRegularList}
+use Rattle.weighted_mesh.specs.Regular.{weight, IsRegularList}
 use Rattle.weighted_mesh.specs.Hidden.{hidden_count}
 use Rattle.weighted_mesh.specs.declared.regular_fault.RegularFault.{RegularFault}
 use Rattle.weighted_mesh.specs.declared.regular_fault.RegularFault.TheVariants as faults

@@ -1,10 +1,10 @@
 //! The weights of the points that are kept.
 
 ghost use Rattle.std.specs.Prelude.{◌≡◌, ◌<◌, length, map, All, IfOk};
-ghost use Rattle.regular_laws.specs.Regular.{weight};
+ghost use Rattle.weighted_mesh.specs.Regular.{weight};
 
+use crate::Weights;
 use node_files::Names;
-use regular_laws::Weights;
 use std::alloc::Global;
 use tet_ports::NoMemory;
 

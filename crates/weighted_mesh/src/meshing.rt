@@ -1,12 +1,12 @@
 //! The regular list of weighted points.
 ghost use Rattle.std.specs.Prelude.{◌-◌, ◌^◌, ◌<◌, length, All, IfOk, OnOk, IsErrOf};
 ghost use Rattle.geo_laws.specs.Delaunay.{AreCoplanar, HasDistinctPoints, IsOn};
-ghost use Rattle.regular_laws.specs.Regular.{AreWeightsOf, IsRegularList};
+ghost use Rattle.weighted_mesh.specs.Regular.{AreWeightsOf, IsRegularList};
 
+use crate::Weights;
 use crate::sites::Sites;
 use cavity_insert::{BuildFault, lowest_mesh, sorted_rows};
 use geo_laws::{Points, TetList};
-use regular_laws::Weights;
 use std::alloc::Global;
 
 /// The regular list of distinct points with one weight each, of at most `2^46` in size, in squares

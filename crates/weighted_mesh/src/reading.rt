@@ -5,11 +5,11 @@ ghost use Rattle.node_files.specs.Writing.{IsNodeTable};
 ghost use Rattle.sign_predicates.specs.Weighted.{IsWeight};
 ghost use Rattle.weighted_mesh.specs.Weights.{weight_in, weight_of, ReadsWeights};
 
+use crate::Weights;
 use crate::units::to_weight;
 use crate::weight_fault::WeightFault;
 use grid_coords::Grid;
 use node_files::NodeTable;
-use regular_laws::Weights;
 use std::alloc::Global;
 use tet_text::{TextFault, TextKind, decimal_in};
 

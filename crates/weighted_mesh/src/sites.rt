@@ -2,15 +2,15 @@
 ghost use Rattle.std.specs.Prelude.{◌≡◌, ◌<◌, All, length};
 ghost use Rattle.geo_laws.specs.Delaunay.{point};
 ghost use Rattle.point_locate.specs.Place.{AreOn, row_corners};
-ghost use Rattle.regular_laws.specs.Regular.{weight, corner_weights, is_weighted_outside};
-ghost use Rattle.regular_laws.specs.Regular.{AreWeightsOf, weighted_lift};
+ghost use Rattle.weighted_mesh.specs.Regular.{weight, corner_weights, is_weighted_outside};
+ghost use Rattle.weighted_mesh.specs.Regular.{AreWeightsOf, weighted_lift};
 ghost use Rattle.sign_predicates.specs.Weighted.{IsWeight, AreWeights};
 ghost use Rattle.weighted_mesh.specs.Sites.{weighted};
 
+use crate::Weights;
 use cavity_insert::Lift;
 use geo_laws::{Points, Tet, numbers_of};
 use point_locate::row_points;
-use regular_laws::Weights;
 use sign_predicates::{FourWeights, GridPoint, outside_weighted};
 use std::marker::Model;
 
@@ -24,7 +24,7 @@ pub(crate) struct Sites<'a> {
 
 impl<'a> Model for Sites<'a> {
     ghost use Rattle.weighted_mesh.specs.Sites.{Weighted};
-    ghost use Rattle.regular_laws.specs.Regular.{AreWeightsOf as HaveWeights};
+    ghost use Rattle.weighted_mesh.specs.Regular.{AreWeightsOf as HaveWeights};
 
     ghost Value = { Weighted };
 

@@ -1,16 +1,15 @@
 //! Worked regular lists, and lists that a plain filter over all fours makes too.
 ghost use Rattle.std.specs.Prelude.{◌≡◌, ◌<◌, ◌≤◌, ◌^◌, All, IsTrue, length, unsigned_abs};
-ghost use Rattle.regular_laws.specs.Regular.{AreWeightsOf};
 ghost use Rattle.sign_predicates.specs.Weighted.{IsWeight, AreWeights};
+ghost use Rattle.weighted_mesh.specs.Regular.{AreWeightsOf};
 
 use crate::tests::small_sets::{CUBE_ROWS, are_rows, is_small_set, next_state, points_of};
 use cavity_insert::BuildFault;
 use geo_laws::{Points, Tet, TetList};
-use regular_laws::Weights;
 use sign_predicates::{Corners, FourWeights, GridPoint, Numbers, Sign, orient, outside_weighted};
 use std::alloc::Global;
 use tet_ports::NoMemory;
-use weighted_mesh::regular;
+use weighted_mesh::{Weights, regular};
 
 fn weights(alloc: Global, numbers: &[i16]) -> Result<Weights, NoMemory> {
     let mut weights = Weights::new(alloc);

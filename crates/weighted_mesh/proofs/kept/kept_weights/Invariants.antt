@@ -1,5 +1,5 @@
 use Rattle.std.proofs.Common.{◌≡◌, map, take}
-use Rattle.regular_laws.specs.Regular.{weight}
+use Rattle.weighted_mesh.specs.Regular.{weight}
 use Rattle.weighted_mesh.proofs.kept.kept_weights.Given as goal
 
 abbrev pub invariant-loop-name : goal.invariant-loop-name

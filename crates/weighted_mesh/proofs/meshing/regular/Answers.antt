@@ -1,5 +1,5 @@
 use Rattle.geo_laws.specs.Delaunay.{all_numbers}
-use Rattle.regular_laws.specs.Regular.{weighted_lift}
+use Rattle.weighted_mesh.specs.Regular.{weighted_lift}
 use Rattle.mesh_laws.specs.LowestLiving.{IsLowestMesh}
 use Rattle.weighted_mesh.proofs.Rows.{regular_list, rows_on_points}
 use Rattle.weighted_mesh.proofs.meshing.regular.Goals as goal

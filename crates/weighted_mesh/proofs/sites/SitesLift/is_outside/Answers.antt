@@ -1,6 +1,6 @@
 use Rattle.std.proofs.Common.{sym, subst, ◌∙◌}
 use Rattle.point_locate.specs.Place.{AreOn, row_corners}
-use Rattle.regular_laws.specs.Regular.{is_weighted_outside}
+use Rattle.weighted_mesh.specs.Regular.{is_weighted_outside}
 use Rattle.weighted_mesh.specs.Sites.{Weighted}
 use Rattle.weighted_mesh.proofs.Above.{above_of}
 use Rattle.weighted_mesh.proofs.sites.SitesLift.is_outside.Goals as goal

@@ -7,7 +7,7 @@ use Rattle.geo_laws.specs.Hull.{InHullAmong}
 use Rattle.geo_laws.specs.Height.{IsLexPositive, residual, IsLowestAmong}
 use Rattle.geo_laws.specs.Laws.{IsMetOrSame, IsGeneric, IsTriangulationAmong}
 use Rattle.geo_laws.specs.declared.tetrahedra.Tet.{Tet}
-use Rattle.regular_laws.specs.Regular.{weight, weighted_lift, is_weighted_outside, IsRegularAmong, IsRegularListAmong}
+use Rattle.weighted_mesh.specs.Regular.{weight, weighted_lift, is_weighted_outside, IsRegularAmong, IsRegularListAmong}
 
 -- The lifting map: a further point is weighted outside of a positive tetrahedron, ties included, exactly where its lifted height is above
 -- the

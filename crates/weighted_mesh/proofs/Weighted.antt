@@ -18,9 +18,9 @@ use Rattle.geo_laws.proofs.LeastHeight.{law_least_height}
 use Rattle.insert_laws.proofs.Cover.{law_cover}
 use Rattle.sign_predicates.specs.Weighted.{in_weighted_sphere}
 use Rattle.sign_predicates.proofs.WeightedTerms.{weighted_sum_is, in_weighted_sphere_is}
-use Rattle.regular_laws.specs.Regular.{weight, corner_weights, weighted_lift}
-use Rattle.regular_laws.specs.Laws.{WeightedLiftLaw, RegularRowLaw, WeightedRadicalLaw, WeightedLeastHeightLaw, WeightedCoverLaw, NoWeightsLaw}
-use Rattle.regular_laws.proofs.Votes.{sum_decides}
+use Rattle.weighted_mesh.specs.Regular.{weight, corner_weights, weighted_lift}
+use Rattle.weighted_mesh.specs.WeightedLaws.{WeightedLiftLaw, RegularRowLaw, WeightedRadicalLaw, WeightedLeastHeightLaw, WeightedCoverLaw, NoWeightsLaw}
+use Rattle.weighted_mesh.proofs.Votes.{sum_decides}
 
 -- ---- the first number of the residual
 

@@ -1,7 +1,7 @@
 //! The laws of the regular list, over the definitions alone.
-ghost use Rattle.regular_laws.specs.Laws.{NoWeightsLaw, RegularRowLaw, WeightedCoverLaw};
-ghost use Rattle.regular_laws.specs.Laws.{WeightedLeastHeightLaw, WeightedLiftLaw};
-ghost use Rattle.regular_laws.specs.Laws.{WeightedRadicalLaw};
+ghost use Rattle.weighted_mesh.specs.WeightedLaws.{NoWeightsLaw, RegularRowLaw, WeightedCoverLaw};
+ghost use Rattle.weighted_mesh.specs.WeightedLaws.{WeightedLeastHeightLaw, WeightedLiftLaw};
+ghost use Rattle.weighted_mesh.specs.WeightedLaws.{WeightedRadicalLaw};
 
 /// A point is weighted outside of a positive tetrahedron exactly where it is above the plane
 /// through the lifted corners: each point is lifted by its squared length less its weight. Source:

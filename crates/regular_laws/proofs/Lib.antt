@@ -1,2 +1,0 @@
-pub mod Votes
-pub mod Weighted
