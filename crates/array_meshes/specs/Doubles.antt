@@ -1,6 +1,6 @@
 -- Points whose coordinates are binary floats, rounded to points with whole coordinates.
 use Rattle.std.specs.Prelude.{ℕ, ◌<◌, List, length, All, Option, Some, IsSome}
-use Rattle.double_places.specs.Doubles.{nearest_units}
+use Rattle.binary_floats.specs.Doubles.{nearest_units}
 use Rattle.grid_coords.specs.Units.{limit}
 use Rattle.tet_text.specs.Decimals.{◌>>=◌}
 use Rattle.array_meshes.specs.declared.arrays.Place.{Place}

@@ -4,7 +4,7 @@ ghost use Rattle.std.specs.Prelude.{◌≡◌, ◌↔◌, ◌≤◌, map, drop, 
 ghost use Rattle.array_meshes.specs.Doubles.{IsDoubleFault, code_of, rounded_place};
 
 use crate::arrays::Place;
-use double_places::nearest_units;
+use binary_floats::nearest_units;
 
 /// A point whose coordinates are binary floats of 64 bits, by their bits, as three `double` of C
 /// lie in memory.

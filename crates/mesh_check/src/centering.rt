@@ -5,10 +5,11 @@ ghost use Rattle.grid_coords.specs.Units.{limit};
 ghost use Rattle.mesh_check.specs.Steps.{AndThen};
 ghost use Rattle.mesh_check.specs.Centering.{CenteredAnswer, MovedAnswer, PlacedAnswer};
 
+use crate::checking::MOST_POINTS;
+use crate::fault::CheckFault;
 use crate::moving::moved_point_within;
 use geo_laws::Points;
 use grid_coords::{DecimalPoint, DecimalPoints, WholePoint, origin_of};
-use mesh_check::{CheckFault, MOST_POINTS};
 use node_files::{GridFault, settle_least};
 use std::alloc::Global;
 

@@ -7,8 +7,11 @@ ghost use Rattle.mesh_check.specs.FarChecking.{FarTextAnswer, FarCheckAnswer};
 ghost use Rattle.tet_ports.specs.Seen.{IsOnlyRead, folder_seen};
 
 use crate::centering::centered_points;
+use crate::check::check_mesh;
+use crate::defect::Verdict;
+use crate::fault::CheckFault;
+use crate::reading::{MeshText, read_mesh};
 use geo_laws::Points;
-use mesh_check::{CheckFault, MeshText, Verdict, check_mesh, read_mesh};
 use std::alloc::Global;
 use tet_ports::{Folder, Name};
 

@@ -33,5 +33,5 @@ pub use fault::CheckFault;
 pub use laws::law_moved;
 pub use messages::{append_number, file_message, line, put_message, text_message, usage_message};
 pub use positive::first_not_positive;
-pub use reading::{MOST_BYTES, MeshText, read_list, read_mesh, read_nodes, read_rows};
+pub use reading::{MOST_BYTES, MeshText, read_list, read_nodes, read_rows};
 pub use telling::{append_place, defect_text, sound_line};

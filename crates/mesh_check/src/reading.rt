@@ -205,7 +205,7 @@ fn read_neighbors<F: Folder>(
 /// The files of a mesh with this base: `.node`, `.ele`, `.face` and `.neigh`, in this order, each
 /// text read before the next fetch. The last may be missing. It refuses with the first file that is
 /// at fault, or when out of memory, and stores nothing.
-pub fn read_mesh<F: Folder>(
+pub(crate) fn read_mesh<F: Folder>(
     alloc: Global,
     base: &Name,
     folder: &mut F,

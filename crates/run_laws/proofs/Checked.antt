@@ -16,7 +16,7 @@ use Rattle.node_files.specs.declared.table.NodeTable.{NodeTable}
 use Rattle.node_files.specs.LeastGrid.{coarsest, point_on}
 use Rattle.mesh_check.specs.Defects.{IsVerdict, neighbors_or}
 use Rattle.mesh_check.specs.declared.defect.Verdict.TheVariants.{Sound}
-use Rattle.written_laws.proofs.Soundness.{sound_of}
+use Rattle.run_laws.proofs.Soundness.{sound_of}
 use Rattle.mesh_check.specs.Checking.{checked_grid, CheckAnswer, most_points}
 use Rattle.mesh_check.specs.Reading.{IsRead, MeshAnswer, NeighborsAnswer}
 use Rattle.tet_ports.specs.Seen.{FolderSeen}

@@ -19,8 +19,8 @@ use Rattle.mesh_check.specs.Defects.{IsVerdict}
 use Rattle.mesh_check.specs.declared.defect.Verdict.TheVariants.{Sound}
 use Rattle.mesh_check.specs.Checking.{CheckAnswer}
 use Rattle.mesh_check.specs.Reading.{IsRead, most_bytes}
-use Rattle.written_laws.specs.WrittenMesh.{written_mesh}
-use Rattle.written_laws.specs.Renamed.{AreNamesIn}
+use Rattle.run_laws.specs.WrittenMesh.{written_mesh}
+use Rattle.run_laws.specs.Renamed.{AreNamesIn}
 use Rattle.run_laws.specs.ReadBack.{IsReadable}
 use Rattle.run_laws.specs.Reread.{IsShortNumber}
 use Rattle.run_laws.specs.NodeRead.{IsLegiblePoint}

@@ -28,8 +28,8 @@ use Rattle.node_files.specs.Point.{point_of, index_at, place_at, attributes_at, 
 use Rattle.node_files.specs.Point as read
 use Rattle.node_files.specs.Writing.{whole_text, fields_text, line_text, place_fields, point_line, point_lines, like_lines, list_text, node_text, mark_count}
 use Rattle.node_files.specs.declared.table.NodeTable.{NodeTable}
-use Rattle.written_laws.specs.LeastGrids.{IsPointAt}
-use Rattle.written_laws.proofs.Reread.{reread}
+use Rattle.run_laws.specs.LeastGrids.{IsPointAt}
+use Rattle.run_laws.proofs.RereadMeshes.{reread}
 use Rattle.run_laws.specs.Reread.{IsShortNumber, IsPlainField}
 use Rattle.run_laws.specs.NodeRead.{IsLegible, IsLegiblePoint, IsPlainTable, NodeReadLaw, attributes_behind, markers_behind}
 use Rattle.run_laws.proofs.Words.{IsWord, AreWords, joined, line_read}

@@ -13,13 +13,13 @@ use Rattle.mesh_files.specs.declared.markers.FaceRow.{FaceRow}
 use Rattle.mesh_check.specs.Corners.{face_listed}
 use Rattle.mesh_check.proofs.Rows.{face_on, IsFaceOn, pairs_at, pairs_long}
 use Rattle.node_files.specs.LeastGrid.{coarsest, point_on}
-use Rattle.written_laws.proofs.Listings.{corner_of, partner_shares}
-use Rattle.written_laws.proofs.Soundness.{sound_of}
-use Rattle.written_laws.proofs.Fitting.{fits}
-use Rattle.written_laws.specs.Renamed.{renamed_row, renamed_face}
-use Rattle.written_laws.specs.WrittenMesh.{written_mesh}
-use Rattle.written_laws.proofs.LargerUnit.{larger_unit}
-use Rattle.written_laws.proofs.Renamed.{renamed_mesh}
+use Rattle.run_laws.proofs.Listings.{corner_of, partner_shares}
+use Rattle.run_laws.proofs.Soundness.{sound_of}
+use Rattle.run_laws.proofs.Fitting.{fits}
+use Rattle.run_laws.specs.Renamed.{renamed_row, renamed_face}
+use Rattle.run_laws.specs.WrittenMesh.{written_mesh}
+use Rattle.run_laws.proofs.LargerUnit.{larger_unit}
+use Rattle.run_laws.proofs.Renamed.{renamed_mesh}
 use Rattle.run_laws.specs.ReadBack.{ReadBackLaw}
 use Rattle.run_laws.specs.Reread.{IsShortNumber, IsOneOf, HasNames, HasFaceNames, AreBelow}
 use Rattle.run_laws.proofs.Points.{node_read}

@@ -17,7 +17,7 @@ use Rattle.mesh_files.specs.declared.markers.FaceRow.{FaceRow}
 use Rattle.mesh_files.specs.ReadFields.{four_head, flag_head, flag_at, passed_over}
 use Rattle.mesh_files.specs.Repeated.{next_row}
 use Rattle.mesh_files.specs.ReadRows.{tet_row, tets_of, ele_of, face_row, face_rows_of, across_row, neighbors_of}
-use Rattle.written_laws.specs.Renamed.{renamed_row, renamed_face}
+use Rattle.run_laws.specs.Renamed.{renamed_row, renamed_face}
 use Rattle.run_laws.specs.Reread.{IsShortNumber, IsPlainField, AreLegibleMarks, HasNames, HasFaceNames, AreBelow, EleReadLaw, FaceReadLaw, NeighReadLaw}
 use Rattle.run_laws.proofs.Words.{IsWord, AreWords, joined, line_read}
 use Rattle.run_laws.proofs.PlainFields.{plain_word, words_append, zero_plain}

@@ -10,9 +10,9 @@ use Rattle.complex_laws.proofs.ComplexMesh.{law_hull_mesh}
 use Rattle.complex_mesh.specs.Meshing.{IsComplexMesh}
 use Rattle.complex_mesh.specs.declared.mesh.ComplexMesh.{ComplexMesh}
 use Rattle.complex_mesh.specs.declared.mesh.MeshOptions.{MeshOptions}
-use Rattle.written_laws.specs.WrittenMesh.{IsApartMesh}
-use Rattle.written_laws.proofs.Kept.{kept_apart}
-use Rattle.written_laws.proofs.Written.{written}
+use Rattle.run_laws.specs.WrittenMesh.{IsApartMesh}
+use Rattle.run_laws.proofs.Kept.{kept_apart}
+use Rattle.run_laws.proofs.Written.{written}
 use Rattle.run_laws.specs.SoundMeshes.{SoundComplexLaw, SoundPointsLaw}
 
 -- the Delaunay list is apart

@@ -8,7 +8,7 @@ use Rattle.mesh_files.specs.FaceRows.{AreFaceRowsOf}
 use Rattle.mesh_files.specs.declared.markers.FaceRow.{FaceRow}
 use Rattle.mesh_check.specs.Defects.{IsVerdict}
 use Rattle.mesh_check.specs.declared.defect.Verdict.TheVariants.{Sound}
-use Rattle.written_laws.specs.WrittenMesh.{written_mesh}
+use Rattle.run_laws.specs.WrittenMesh.{written_mesh}
 use Rattle.run_laws.proofs.SoundMeshes.{sound_points, sound_complex}
 use Rattle.run_steps.proofs.Asked.{asked_by_face}
 use Rattle.run_steps.specs.Meshing.{MeshOf, PointsMeshOf}

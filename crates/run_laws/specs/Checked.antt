@@ -14,7 +14,7 @@ use Rattle.mesh_check.specs.declared.defect.Verdict.TheVariants.{Sound}
 use Rattle.mesh_check.specs.Checking.{checked_grid, CheckAnswer, most_points}
 use Rattle.mesh_check.specs.Reading.{IsRead}
 use Rattle.tet_ports.specs.Seen.{FolderSeen}
-use Rattle.written_laws.specs.WrittenMesh.{written_mesh}
+use Rattle.run_laws.specs.WrittenMesh.{written_mesh}
 use Rattle.run_laws.specs.ReadBack.{IsReadable}
 
 -- The folder has the files of a mesh under a base, each with its text of at most 2^26 bytes, where it tells what it has: its points, its

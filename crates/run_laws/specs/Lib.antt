@@ -1,3 +1,7 @@
+pub mod WrittenMesh
+pub mod Renamed
+pub mod LeastGrids
+pub mod SoundMesh
 pub mod SoundRun
 pub mod CheckedRun
 pub mod SoundMeshes

@@ -3,7 +3,7 @@ use Rattle.std.specs.Prelude.{ℕ, ◌<◌, List, ◌++◌, length, All}
 use Rattle.std.specs.List.{range_with_len}
 use Rattle.sign_predicates.specs.Point.{Point}
 use Rattle.node_files.specs.Folding.{IsFolded}
-use Rattle.written_laws.specs.Renamed.{AreNamesIn}
+use Rattle.run_laws.specs.Renamed.{AreNamesIn}
 
 -- The names of the points that are kept of a list, and those behind it of added points, are rising places in the list with the added points
 -- behind it, where the same points stand

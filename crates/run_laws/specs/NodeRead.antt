@@ -9,7 +9,7 @@ use Rattle.node_files.specs.Node.{node_of}
 use Rattle.node_files.specs.Writing.{mark_count, node_text}
 use Rattle.node_files.specs.declared.node_text.NodeText.{NodeText}
 use Rattle.node_files.specs.declared.table.NodeTable.{NodeTable}
-use Rattle.written_laws.specs.LeastGrids.{ArePointsAt}
+use Rattle.run_laws.specs.LeastGrids.{ArePointsAt}
 use Rattle.run_laws.specs.Reread.{IsShortNumber, IsPlainField}
 
 -- a coordinate of at most `wide` grid units in size, with at most 35 decimals

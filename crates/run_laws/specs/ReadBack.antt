@@ -18,8 +18,8 @@ use Rattle.node_files.specs.declared.table.NodeTable.{NodeTable}
 use Rattle.node_files.specs.LeastGrid.{least_grid_of, coarsest, point_on}
 use Rattle.mesh_check.specs.Defects.{IsVerdict}
 use Rattle.mesh_check.specs.declared.defect.Verdict.TheVariants.{Sound}
-use Rattle.written_laws.specs.Renamed.{AreNamesIn}
-use Rattle.written_laws.specs.WrittenMesh.{written_mesh}
+use Rattle.run_laws.specs.Renamed.{AreNamesIn}
+use Rattle.run_laws.specs.WrittenMesh.{written_mesh}
 use Rattle.run_laws.specs.NodeRead.{IsPlainTable, IsLegiblePoint}
 use Rattle.run_laws.specs.Reread.{IsShortNumber, AreLegibleMarks}
 

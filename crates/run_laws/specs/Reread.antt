@@ -8,7 +8,7 @@ use Rattle.incidence.specs.declared.pairs.Across.{Across}
 use Rattle.mesh_files.specs.Texts.{ele_text_of, face_text, neigh_text}
 use Rattle.mesh_files.specs.declared.markers.FaceRow.{FaceRow}
 use Rattle.mesh_files.specs.ReadRows.{ele_of, face_list_of, neigh_of}
-use Rattle.written_laws.specs.Renamed.{renamed_row, renamed_face}
+use Rattle.run_laws.specs.Renamed.{renamed_row, renamed_face}
 
 -- a number of up to 18 digits, as readers take them
 abbrev pub IsShortNumber : ℕ → Type 0

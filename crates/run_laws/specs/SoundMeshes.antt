@@ -10,7 +10,7 @@ use Rattle.mesh_files.specs.FaceRows.{AreFaceRowsOf}
 use Rattle.mesh_files.specs.declared.markers.FaceRow.{FaceRow}
 use Rattle.mesh_check.specs.Defects.{IsVerdict}
 use Rattle.mesh_check.specs.declared.defect.Verdict.TheVariants.{Sound}
-use Rattle.written_laws.specs.WrittenMesh.{written_mesh}
+use Rattle.run_laws.specs.WrittenMesh.{written_mesh}
 
 -- The mesh of a complex, with the faces on its hull and in facets, or all faces, has no defect
 abbrev pub SoundComplexLaw : Type 0

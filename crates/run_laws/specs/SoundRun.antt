@@ -6,7 +6,7 @@ use Rattle.mesh_files.specs.FaceRows.{AreFaceRowsOf}
 use Rattle.mesh_files.specs.declared.markers.FaceRow.{FaceRow}
 use Rattle.mesh_check.specs.Defects.{IsVerdict}
 use Rattle.mesh_check.specs.declared.defect.Verdict.TheVariants.{Sound}
-use Rattle.written_laws.specs.WrittenMesh.{written_mesh}
+use Rattle.run_laws.specs.WrittenMesh.{written_mesh}
 use Rattle.run_steps.specs.Meshing.{MeshAnswer}
 use Rattle.run_steps.specs.Outputs.{AreFirstOutputsOf, face_file}
 use Rattle.run_steps.specs.declared.mesh.Bound.{Bound}

@@ -7,7 +7,7 @@ use Rattle.tet_text.specs.Decimals.{Scaled}
 use Rattle.tet_text.specs.Faults.{ended, extra, not_a_number}
 use Rattle.tet_text.specs.Reading.{◌>>=◌}
 use Rattle.grid_coords.specs.declared.points.DecimalPoint.{DecimalPoint}
-use Rattle.float_decimals.specs.Shortest.{float_decimal}
+use Rattle.binary_floats.specs.Shortest.{float_decimal}
 use Rattle.plc_files.specs.declared.parts.PolygonText.{PolygonText}
 use Rattle.plc_files.specs.Text.{Plc}
 use Rattle.soup_files.specs.declared.stl_facet.StlFacet.{StlFacet}

@@ -11,7 +11,7 @@ ghost use Rattle.soup_files.specs.Triangles.{triangle_polygon};
 use crate::stl::{Triangle, placed, surface};
 use crate::stl_facet::StlFacet;
 use crate::vertex_set::VertexSet;
-use float_decimals::float_decimal;
+use binary_floats::float_decimal;
 use grid_coords::DecimalPoint;
 use plc_files::{PlcFault, PlcText};
 use std::alloc::Global;

@@ -37,8 +37,9 @@ HasBareMesh options bound = (plain : Meshed) × MeshAnswer options bound (Ok pla
 
 -- The outputs are those of one mesh of an input that is read as `Read` says, of words that are understood as `Understood` says: the mesh of
 -- its complex with more points behind its own, which differ from them and whose coordinates can be halved `halvings` times. All that
--- `IsMeshBy` says of the mesh of a complex holds of this mesh and those points, and each of them is a corner of a tetrahedron. `Bare` is what is known of the complex without them. The summary has the numbers of tetrahedra that are over the volume or
--- the limit of their region, over the ratio, and below the angle, of those that are given
+-- `IsMeshBy` says of the mesh of a complex holds of this mesh and those points, and each of them is a corner of a tetrahedron. `Bare` is
+-- what is known of the complex without them. The summary has the numbers of tetrahedra that are over the volume or the limit of their
+-- region, over the ratio, and below the angle, of those that are given
 pub record IsRefinedMeshBy (goal : Goal) (limits : Limits) (options : Options) (Understood : Type 0) (Read : Input → Type 0)
     (Bare : Bound → Type 0) (outputs : Outputs) : Type 0 where
   pub understood : Understood

@@ -5,7 +5,7 @@ ghost use Rattle.plc_files.specs.Checks.{HasFewParts};
 
 use crate::tests::complexes::{bound, point_count};
 use Form::{Binary, Off, Stl, WideOff, WideStl};
-use float_decimals::float_decimal;
+use binary_floats::float_decimal;
 use geo_laws::Complex;
 use plc_files::{PlcFault, PlcText};
 use soup_files::{

@@ -1,0 +1,6 @@
+pub mod Floats
+pub mod Nearest
+pub mod Shortest
+pub mod Place
+pub mod Laws
+pub mod Doubles

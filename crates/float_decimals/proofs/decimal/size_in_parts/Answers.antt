@@ -1,7 +1,0 @@
-use Rattle.std.proofs.Common.{◌∙◌, ap, sym}
-use Rattle.float_decimals.specs.Shortest.{shortest}
-use Rattle.float_decimals.proofs.Places.{zero_here}
-use Rattle.float_decimals.proofs.decimal.size_in_parts.Goals as goal
-
-pub returns-then-steps-eq0-clause-value : goal.returns-then-steps-eq0-clause-value
-returns-then-steps-eq0-clause-value c = sym (zero_here c.steps_of-steps.result c.if-steps-eq0.true) ∙ ap shortest c.steps_of-steps.ensures.value

@@ -1,5 +1,0 @@
-use Rattle.float_decimals.proofs.Shortest.{is_found, is_shortest}
-use Rattle.float_decimals.proofs.laws.law_shortest.Goals as goal
-
-pub returns : goal.returns
-returns c = λ s. (is_found s, is_shortest s)

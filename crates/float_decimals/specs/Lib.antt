@@ -1,5 +1,0 @@
-pub mod Floats
-pub mod Nearest
-pub mod Shortest
-pub mod Place
-pub mod Laws

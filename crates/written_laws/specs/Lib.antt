@@ -1,4 +1,0 @@
-pub mod WrittenMesh
-pub mod Renamed
-pub mod LeastGrids
-pub mod SoundMesh
