@@ -10,6 +10,7 @@ use Rattle.geo_laws.specs.Complex.{Complex}
 use Rattle.geo_laws.specs.declared.complex.Facet.{Facet}
 use Rattle.geo_laws.specs.declared.complex.Piece.{Piece}
 use Rattle.grid_coords.specs.Choice.{is_over, most_decimals}
+use Rattle.grid_coords.specs.declared.grid.Grid.{Grid as ModelGrid}
 use Rattle.grid_coords.specs.declared.points.DecimalPoint.{DecimalPoint}
 use Rattle.grid_coords.specs.declared.origin.WholePoint.{WholePoint}
 use Rattle.tetfit_run.specs.Apart.{file_point, TellsHelp}
@@ -164,11 +165,33 @@ moved_text m points = if nat_lt m (most_decimals points) then moved_line m else 
 
 -- ---- the lines
 
--- the line on the segment, and the line on rounded coordinates
-abbrev pub TellsRounded : Limits → Options → Input → Numbering → Piece → List ℕ → Type 0
-TellsRounded limits options input by piece lines =
-    (line : List ℕ) × TellsSegment limits options input by piece line
-    × (lines ≡ line ++ rounding_text options input.nodes.decimals)
+-- fewer decimals may help where the grid of a model has some, and fewer halvings than it may have
+abbrev pub grid_help : ℕ → ModelGrid → List ℕ
+grid_help most grid = if nat_lt 0 grid.decimals && nat_lt grid.halvings most then codes ": try fewer decimals by --decimals=M" else []
+
+-- how many decimals and halvings the grid of a model has
+abbrev pub grid_front : ModelGrid → List ℕ
+grid_front grid =
+    codes "tetfit: the grid has " ++ decimal grid.decimals ++ codes " decimals and " ++ decimal grid.halvings ++ codes " halvings"
+
+-- the line on the grid of a model, which may have at most so many halvings
+unfoldable pub grid_line : ℕ → ModelGrid → List ℕ
+grid_line most grid = grid_front grid ++ grid_help most grid ++ codes "\n"
+
+-- the grid on which the points of the input are
+pub record IsGridOf (limits : Limits) (options : Options) (input : Input) (grid : ModelGrid) : Type 0 where
+  pub bound : Bound
+  pub on_grid : BoundTried limits options input (Ok bound)
+  pub is : grid ≡ bound.table.grid
+
+-- the line on the segment, that on the grid, and that on rounded coordinates
+pub record TellsRounded (limits : Limits) (options : Options) (input : Input) (by : Numbering) (piece : Piece) (lines : List ℕ)
+    : Type 0 where
+  pub line : List ℕ
+  pub segment : TellsSegment limits options input by piece line
+  pub grid : ModelGrid
+  pub of_model : IsGridOf limits options input grid
+  pub is : lines ≡ line ++ grid_line options.halvings grid ++ rounding_text options input.nodes.decimals
 
 -- the lines of two parts, and the line on rounded coordinates
 abbrev pub parts_text : Options → List DecimalPoint → Numbering → Part → Part → List ℕ

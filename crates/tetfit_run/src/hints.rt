@@ -7,7 +7,7 @@ ghost use Rattle.grid_coords.specs.Origins.{IsNear};
 ghost use Rattle.node_files.specs.Limits.{AreIndexable};
 ghost use Rattle.run_steps.specs.Reading.{IsSound};
 ghost use Rattle.tetfit_run.specs.Hints.{hinted_facet_text, first_facet, grid_hint, parts_text};
-ghost use Rattle.tetfit_run.specs.Hints.{crossing_text, is_rounded, parts_help};
+ghost use Rattle.tetfit_run.specs.Hints.{crossing_text, grid_front, grid_help, grid_line, is_rounded, parts_help, IsGridOf};
 ghost use Rattle.tetfit_run.specs.Hints.{flat_line, flat_text, half_unit, moved_line, moved_text};
 ghost use Rattle.tetfit_run.specs.Hints.{rounded_line, rounded_text, rounding_text};
 ghost use Rattle.tetfit_run.specs.Hints.{segment_line, HasPoints, IsHint, IsHintBy, IsLineOf};
@@ -26,7 +26,7 @@ use crate::trial::Trial;
 use crate::wholes::whole_of;
 use command_words::Options;
 use geo_laws::{Complex, Piece};
-use grid_coords::{DecimalPoint, WholePoint, most_decimals};
+use grid_coords::{DecimalPoint, Grid, WholePoint, most_decimals};
 use mesh_check::append_number;
 use node_files::Limits;
 use run_steps::{LimitKind, Numbering, Status};
@@ -136,8 +136,54 @@ fn append_rounding(
     }
 }
 
-/// The line that names the segment on which a missing subsegment lies, and that coordinates were
-/// rounded, where they were.
+/// The grid on which the points of the input are.
+fn grid_of(alloc: Global, trial: &Trial, count: usize) -> Result<Grid, NoMemory>
+    requires { HasPoints trial.now.limits trial.now.options trial.now.input count }
+    ensures { IfOk result (IsGridOf trial.now.limits trial.now.options trial.now.input) }
+{
+    let nodes = tried_nodes(alloc, trial.options, &trial.input.nodes)?;
+    match trial.bind(alloc, nodes) {
+        Ok(bound) => Ok(bound.table.grid),
+        Err(Status::NoMemory) => Err(NoMemory),
+        Err(_) => unreachable!(),
+    }
+}
+
+/// What may help where the grid is too coarse: fewer decimals, where it has some, and fewer
+/// halvings than it may have.
+fn grid_help(most: u32, grid: Grid) -> &'static [u8]
+    ensures { result.now ≡ grid_help most grid }
+{
+    if grid.decimals > 0 && grid.halvings < most {
+        b": try fewer decimals by --decimals=M"
+    } else {
+        b""
+    }
+}
+
+/// Appends how many decimals and halvings the grid has.
+fn append_front(text: &mut Bytes, grid: Grid) -> Result<(), NoMemory>
+    ensures { OnOk result (text.new ≡ text.old ++ grid_front grid) }
+{
+    text.append(b"tetfit: the grid has ")?;
+    append_number(text, grid.decimals as usize)?;
+    text.append(b" decimals and ")?;
+    append_number(text, grid.halvings as usize)?;
+    text.append(b" halvings")
+}
+
+/// Appends the line on the grid, which may have at most `most` halvings.
+#[tactic(auto, unfolding(crate::specs::Hints::grid_line))]
+fn append_grid(text: &mut Bytes, most: u32, grid: Grid) -> Result<(), NoMemory>
+    ensures { OnOk result (text.new ≡ text.old ++ grid_line most grid) }
+{
+    append_front(text, grid)?;
+    text.append(grid_help(most, grid))?;
+    text.append(b"\n")
+}
+
+/// The line that names the segment on which a missing subsegment lies, how many decimals and
+/// halvings the grid has, and that coordinates were rounded, where they were.
 fn rounded_segment_hint(
     alloc: Global,
     trial: &Trial,
@@ -152,6 +198,8 @@ fn rounded_segment_hint(
         trial.now.input by.now piece) }
 {
     let mut text = segment_hint(alloc, trial, by, piece)?;
+    let grid = grid_of(alloc, trial, by.names.len())?;
+    append_grid(&mut text, trial.options.halvings, grid)?;
     append_rounding(
         &mut text,
         trial.options,

@@ -162,13 +162,28 @@ tetfit: coordinates were rounded to 8 decimals, of 9 that the file has\n\
 tetfit: they do not cross in the file, rounding made them: \
 move them apart, or try fewer decimals by --decimals=M\n";
 
+/// A triangle that a corner of another one is below, and above once coordinates are whole.
+const PIERCED: &[u8] = b"\
+6 3 0 0\n1 0 0 0.4\n2 9 0 0.4\n3 0 9 8.4\n4 1 4 3.9\n5 1 1 -5\n6 3 1 -5\n\
+2 0\n1\n3 1 2 3\n1\n3 4 5 6\n0\n";
+
+const PIERCED_TOLD: &[u8] = b"\
+tetfit: crossing: facet 1 triangle 1 2 3 and facet 2 triangle 4 5 6\n\
+tetfit: points 1 (0 0 0.4) 2 (9 0 0.4) 3 (0 9 8.4)\n\
+tetfit: points 4 (1 4 3.9) 5 (1 1 -5) 6 (3 1 -5)\n\
+tetfit: coordinates were rounded to 0 decimals, of 1 that the file has\n\
+tetfit: if they meet in the file, give both the points in which they do, \
+or drop one of equal ones\n\
+tetfit: if not, rounding made them meet: move them apart, \
+or try other decimals by --decimals=M\n";
+
 const FLATTENED_TOLD: &[u8] = b"\
 tetfit: all points lie in one plane\n\
 tetfit: coordinates were rounded to 35 decimals, of 36 that the file has\n\
 tetfit: four points that are not in one plane are wanted\n";
 
 /// The message on a model beside the status.
-static TOLD: [Run<'static>; 14] = [
+static TOLD: [Run<'static>; 15] = [
     Run {
         name: "off each grid",
         held: &[(b"t.node", &[FAR])],
@@ -258,6 +273,13 @@ static TOLD: [Run<'static>; 14] = [
         held: &[(b"g.poly", &[GRAZED])],
         words: &[b"g.poly"],
         end: Refused(6, GRAZED_TOLD),
+        files: &[],
+    },
+    Run {
+        name: "facets that cross once coordinates are rounded",
+        held: &[(b"w.poly", &[PIERCED])],
+        words: &[b"-c", b"--decimals=0", b"w.poly"],
+        end: Refused(6, PIERCED_TOLD),
         files: &[],
     },
     Run {
