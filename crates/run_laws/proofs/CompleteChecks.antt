@@ -9,6 +9,7 @@ use Rattle.node_files.specs.LeastGrid.{point_on}
 use Rattle.node_files.specs.declared.node_text.NodeText.{NodeText}
 use Rattle.mesh_check.specs.Checking.{CheckAnswer}
 use Rattle.mesh_check.specs.Reading.{FileAnswer, MeshAnswer, NeighborsAnswer, neighbors_in_text}
+use Rattle.mesh_check.specs.declared.fault.CheckFault.TheVariants.{NoMemory as WantsMemory}
 use Rattle.command_words.specs.Meaning.{options_of}
 use Rattle.run_steps.specs.declared.status.Status.{Status}
 use Rattle.run_steps.specs.declared.status.Status.TheVariants.{Done, NoMemory}
@@ -19,7 +20,7 @@ use Rattle.tetwhere_run.specs.Locating.{LocateAnswer, answer_text}
 use Rattle.tetwhere_run.specs.Run.{mesh_base_of, queries_of}
 use Rattle.tetwhere_run.proofs.Complete.{answer_complete}
 use Rattle.tetwhere_run.specs.declared.status.WhereStatus.{WhereStatus}
-use Rattle.tetwhere_run.specs.declared.status.WhereStatus.TheVariants.{Done as Answered, NoMemory as WantsMemory}
+use Rattle.tetwhere_run.specs.declared.status.WhereStatus.TheVariants.{Done as Answered, Refused}
 use Rattle.run_laws.specs.CompleteChecks.{Spells, SpellsNeighbors, IsSoundMesh, IsGoodQuery, CheckCompleteLaw, WhereCompleteLaw}
 
 module _ (folder : FolderSeen) (told : Files) (tells : folder.files_before ≡ Some told) where
@@ -89,13 +90,13 @@ check_complete limits words folder out told none asks tells mesh quiet status an
 
 -- ---- queries
 
-query_wants : (status : WhereStatus) → (status ≡ WantsMemory) ⊎ (status ≢ WantsMemory)
-query_wants WantsMemory = inl refl
+query_wants : (status : WhereStatus) → (status ≡ Refused WantsMemory) ⊎ (status ≢ Refused WantsMemory)
+query_wants (Refused WantsMemory) = inl refl
 query_wants status = inr (λ e. cc)
 
 pub where_complete : WhereCompleteLaw
 where_complete words folder out told named tells good quiet status answer = go (query_wants status)
   where
-    go : (status ≡ WantsMemory) ⊎ (status ≢ WantsMemory) → (status ≡ Answered) ⊎ (status ≡ WantsMemory)
+    go : (status ≡ Refused WantsMemory) ⊎ (status ≢ Refused WantsMemory) → (status ≡ Answered) ⊎ (status ≡ Refused WantsMemory)
     go (inl wanting) = inr wanting
     go (inr enough) = inl (answer_complete words folder out status answer told tells quiet enough Answered (_, (named, query_answer folder told tells (mesh_base_of words) (queries_of words) good)))

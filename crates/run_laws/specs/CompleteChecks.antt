@@ -16,6 +16,7 @@ use Rattle.mesh_check.specs.Checking.{checked_grid, most_points, mesh_of}
 use Rattle.mesh_check.specs.Defects.{IsNotPositive, IsVerdict}
 use Rattle.mesh_check.specs.Reading.{most_bytes, nodes_in_text, rows_of, faces_in_text, neighbors_in_text}
 use Rattle.mesh_check.specs.declared.defect.Verdict.TheVariants.{Sound}
+use Rattle.mesh_check.specs.declared.fault.CheckFault.TheVariants.{NoMemory as WantsMemory}
 use Rattle.mesh_check.specs.declared.reading.MeshText.{MeshText}
 use Rattle.command_words.specs.Grammar.{words_fault}
 use Rattle.command_words.specs.Meaning.{options_of}
@@ -27,7 +28,7 @@ use Rattle.tetwhere_run.specs.Grid.{where_grid}
 use Rattle.tetwhere_run.specs.Run.{mesh_base_of, queries_of, HasNoReadFault, IsQueryAnswer}
 use Rattle.tetwhere_run.specs.Words.{bad_word}
 use Rattle.tetwhere_run.specs.declared.status.WhereStatus.{WhereStatus}
-use Rattle.tetwhere_run.specs.declared.status.WhereStatus.TheVariants.{Done as Answered, NoMemory as WantsMemory}
+use Rattle.tetwhere_run.specs.declared.status.WhereStatus.TheVariants.{Done as Answered, Refused}
 
 -- the file with this name is there, with at most 2^26 bytes, and spells this by a grammar
 abbrev pub Spells : {A : Type 0} → Files → List ℕ → (List ℕ → Result A TextFault) → A → Type 0
@@ -78,4 +79,4 @@ abbrev pub WhereCompleteLaw : Type 0
 WhereCompleteLaw = (words : List (List ℕ)) (folder : FolderSeen) (out : SinkSeen) (told : Files)
     → bad_word words ≡ None → folder.files_before ≡ Some told → IsGoodQuery told (mesh_base_of words) (queries_of words)
     → HasNoReadFault folder out
-    → (status : WhereStatus) → IsQueryAnswer words folder out status → (status ≡ Answered) ⊎ (status ≡ WantsMemory)
+    → (status : WhereStatus) → IsQueryAnswer words folder out status → (status ≡ Answered) ⊎ (status ≡ Refused WantsMemory)

@@ -4,36 +4,29 @@ use Rattle.tet_ports.specs.Files.{Files}
 use Rattle.tet_ports.specs.Seen.{FolderSeen}
 use Rattle.tet_ports.specs.Seen.{SinkSeen}
 use Rattle.mesh_check.specs.declared.fault.CheckFault.{CheckFault}
+use Rattle.mesh_check.specs.declared.fault.CheckFault.TheVariants.{NoMemory}
 use Rattle.mesh_check.proofs.Once.{IsDecided, IsTold}
 use Rattle.tetwhere_run.specs.Words.{bad_word}
 use Rattle.tetwhere_run.proofs.Once.{locate_once}
-use Rattle.tetwhere_run.specs.Statuses.{status_of}
 use Rattle.tetwhere_run.specs.Run.{mesh_base_of, queries_of, FilesAnswer, HasCause, IsQueryAnswer, IsCompleteQuery, HasNoReadFault}
 use Rattle.tetwhere_run.specs.declared.status.WhereStatus.{WhereStatus}
-use Rattle.tetwhere_run.specs.declared.status.WhereStatus.TheVariants.{Done, Usage, Missing, ReadFault, BadText, Limit, Unsound, NoMemory, WriteFault}
+use Rattle.tetwhere_run.specs.declared.status.WhereStatus.TheVariants.{Done, Usage, Refused, WriteFault}
 
 abbrev status_by : Result (List ℕ) CheckFault → WhereStatus
 status_by (Ok lines) = Done
-status_by (Err fault) = status_of fault
+status_by (Err fault) = Refused fault
 
 -- what a cause is: words that are not two names, or what the files answer
 data Cause (words : List (List ℕ)) (folder : FolderSeen) (s : WhereStatus) : Type 0 where
   misnamed : (word : ℕ) → bad_word words ≡ Some word → s ≡ Usage word 1 → Cause words folder s
   answered : (r : Result (List ℕ) CheckFault) → IsDecided r → FilesAnswer words folder r → s ≡ status_by r → Cause words folder s
 
-refusal_cause : (words : List (List ℕ)) (folder : FolderSeen) (s : WhereStatus) → s ≢ NoMemory → (fault : CheckFault) → FilesAnswer words folder (Err fault) → s ≡ status_of fault → Cause words folder s
-refusal_cause words folder s n fault h e = answered (Err fault) (λ same. n (e ∙ ap status_of same)) h e
-
 cause_of : (words : List (List ℕ)) (folder : FolderSeen) (s : WhereStatus) → HasCause words folder s → Cause words folder s
 cause_of words folder Done h = answered (Ok h.0) tt h.1 refl
 cause_of words folder WriteFault h = absurd h
-cause_of words folder NoMemory h = absurd h
+cause_of words folder (Refused NoMemory) h = absurd h
 cause_of words folder (Usage word place) h = misnamed word h.0 (ap (λ p. Usage word p) h.1)
-cause_of words folder (Missing name) h = refusal_cause words folder (Missing name) (λ e. cc) h.0 h.1 h.2
-cause_of words folder (ReadFault name) h = refusal_cause words folder (ReadFault name) (λ e. cc) h.0 h.1 h.2
-cause_of words folder (BadText name fault) h = refusal_cause words folder (BadText name fault) (λ e. cc) h.0 h.1 h.2
-cause_of words folder (Limit what) h = refusal_cause words folder (Limit what) (λ e. cc) h.0 h.1 h.2
-cause_of words folder (Unsound defect) h = refusal_cause words folder (Unsound defect) (λ e. cc) h.0 h.1 h.2
+cause_of words folder (Refused fault) h = answered (Err fault) (λ e. cc) h refl
 
 named_or_not : (words : List (List ℕ)) (word : ℕ) → bad_word words ≡ Some word → bad_word words ≡ None → ⊥
 named_or_not words word h k = cc
@@ -49,10 +42,10 @@ cause_same told words folder s t i (answered r n h e) (answered q m k f) =
     e ∙ ap status_by (locate_once told folder (mesh_base_of words) (queries_of words) i r q n m h.1 k.1) ∙ sym f
 
 -- where no fault rose, an answer that memory was not wanting for has its cause
-caused : (words : List (List ℕ)) (folder : FolderSeen) (out : SinkSeen) (s : WhereStatus) → HasNoReadFault folder out → s ≢ NoMemory → IsQueryAnswer words folder out s → HasCause words folder s
+caused : (words : List (List ℕ)) (folder : FolderSeen) (out : SinkSeen) (s : WhereStatus) → HasNoReadFault folder out → s ≢ Refused NoMemory → IsQueryAnswer words folder out s → HasCause words folder s
 caused words folder out Done f n h = (h.0, h.1)
 caused words folder out WriteFault f n h = f.1 h.3
-caused words folder out NoMemory f n h = n refl
+caused words folder out (Refused NoMemory) f n h = n refl
 caused words folder out s f n h = h.1
 
 pub answer_complete : (words : List (List ℕ)) (folder : FolderSeen) (out : SinkSeen) (s : WhereStatus) → IsQueryAnswer words folder out s → IsCompleteQuery words folder out s

@@ -8,7 +8,7 @@ use Rattle.std.proofs.lemmas.Int.{unsigned_abs-mul}
 use Rattle.tet_text.specs.Decimals.{Scaled, signed}
 use Rattle.tet_text.proofs.Numerals.{pow10_pos}
 use Rattle.grid_coords.specs.Origins.{moved}
-use Rattle.mesh_check.specs.Moving.{difference, is_short, IsDifference}
+use Rattle.mesh_check.specs.Moving.{difference, is_short}
 use Rattle.mesh_check.proofs.Differences.{moved_exact}
 use Rattle.tetwhere_run.specs.Corners.{AreEqual, MovedPointLaw}
 use Rattle.tetwhere_run.proofs.Exact.{cancel, signs_alike}

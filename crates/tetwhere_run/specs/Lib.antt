@@ -1,5 +1,4 @@
 pub mod Statuses
-pub mod Stops
 pub mod Messages
 pub mod Run
 pub mod Reading

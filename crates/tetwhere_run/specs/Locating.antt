@@ -12,7 +12,7 @@ use Rattle.mesh_check.specs.Checking.{IsUnsettled, most_points}
 use Rattle.tet_ports.specs.Seen.{FolderSeen}
 use Rattle.mesh_check.specs.Steps.{AndThen, Gives}
 use Rattle.mesh_check.specs.declared.fault.CheckFault.{CheckFault}
-use Rattle.mesh_check.specs.declared.fault.CheckFault.TheVariants.{Unsound, NoMemory}
+use Rattle.mesh_check.specs.declared.fault.CheckFault.TheVariants.{Unsound}
 use Rattle.tetwhere_run.specs.Centering.{CenteredTextAnswer}
 use Rattle.tetwhere_run.specs.Grid.{where_grid}
 use Rattle.tetwhere_run.specs.Nearest.{nearest_point}

@@ -1,21 +1,18 @@
 -- What a run of the program answers, puts and tells.
-use Rattle.std.specs.Prelude.{◌≡◌, ◌≢◌, ◌⊎◌, ◌++◌, ℕ, List, [], codes, Some, None, Result, Ok, Err}
+use Rattle.std.specs.Prelude.{◌≡◌, ◌≢◌, ◌⊎◌, ℕ, List, [], Some, None, Result, Ok, Err}
 use Rattle.std.specs.List.{slice_index_or}
 use Rattle.tet_ports.specs.Counts.{Rose}
 use Rattle.tet_ports.specs.Files.{Files}
 use Rattle.tet_ports.specs.Written.{PartlyPut, with_written}
-use Rattle.node_files.specs.declared.node_text.NodeText.{NodeText}
-use Rattle.mesh_check.specs.Reading.{FileAnswer, nodes_in_text}
 use Rattle.tet_ports.specs.Seen.{FolderSeen}
 use Rattle.tet_ports.specs.Seen.{SinkSeen, IsMessagePut}
 use Rattle.mesh_check.specs.declared.fault.CheckFault.{CheckFault}
+use Rattle.mesh_check.specs.declared.fault.CheckFault.TheVariants.{NoMemory}
 use Rattle.tetwhere_run.specs.Words.{bad_word}
 use Rattle.tetwhere_run.specs.Locating.{LocateAnswer}
 use Rattle.tetwhere_run.specs.Messages.{query_message_of}
-use Rattle.tetwhere_run.specs.Statuses.{status_of}
 use Rattle.tetwhere_run.specs.declared.status.WhereStatus.{WhereStatus}
-use Rattle.tetwhere_run.specs.declared.status.WhereStatus.TheVariants.{Done, Usage, Unsound, NoMemory, WriteFault}
-use Rattle.tetwhere_run.specs.declared.stop.Stop.{Stop}
+use Rattle.tetwhere_run.specs.declared.status.WhereStatus.TheVariants.{Done, Usage, Refused, WriteFault}
 
 -- the words are two names: the base of the mesh, and the file of queries
 abbrev pub mesh_base_of : List (List ℕ) → List ℕ
@@ -33,9 +30,9 @@ FilesAnswer words folder result = (bad_word words ≡ None) × LocateAnswer fold
 abbrev pub HasCause : List (List ℕ) → FolderSeen → WhereStatus → Type 0
 HasCause words folder Done = (lines : List ℕ) × FilesAnswer words folder (Ok lines)
 HasCause words folder WriteFault = ⊥
-HasCause words folder NoMemory = ⊥
+HasCause words folder (Refused NoMemory) = ⊥
 HasCause words folder (Usage word place) = (bad_word words ≡ Some word) × (place ≡ 1)
-HasCause words folder status = (fault : CheckFault) × FilesAnswer words folder (Err fault) × (status ≡ status_of fault)
+HasCause words folder (Refused fault) = FilesAnswer words folder (Err fault)
 
 -- nothing is put
 abbrev pub IsAsBefore : SinkSeen → Type 0
@@ -48,7 +45,7 @@ IsQueryAnswer words folder out Done = (lines : List ℕ) × FilesAnswer words fo
     × (out.written_now ≡ with_written out.written_before lines)
 IsQueryAnswer words folder out WriteFault = (lines : List ℕ) × FilesAnswer words folder (Ok lines)
     × PartlyPut out.written_before lines out.written_now × Rose out.faults_before out.faults_now
-IsQueryAnswer words folder out NoMemory = IsAsBefore out
+IsQueryAnswer words folder out (Refused NoMemory) = IsAsBefore out
 IsQueryAnswer words folder out status = IsAsBefore out × HasCause words folder status
 
 -- no fetch and no put failed
@@ -59,44 +56,31 @@ HasNoReadFault folder out = ¬ Rose folder.read_faults_before folder.read_faults
 -- given: the first refusal in order, and Done where there is none
 abbrev pub IsCompleteQuery : List (List ℕ) → FolderSeen → SinkSeen → WhereStatus → Type 0
 IsCompleteQuery words folder out status =
-    (told : Files) → folder.files_before ≡ Some told → HasNoReadFault folder out → status ≢ NoMemory
+    (told : Files) → folder.files_before ≡ Some told → HasNoReadFault folder out → status ≢ Refused NoMemory
     → (other : WhereStatus) → HasCause words folder other → status ≡ other
 
--- where a row is told, rows are numbered from this number on: that of the first point in the mesh's file of points
-abbrev pub IsFirstNumber : List (List ℕ) → FolderSeen → WhereStatus → ℕ → Type 0
-IsFirstNumber words folder (Unsound defect) first =
-    (nodes : NodeText) × FileAnswer folder (mesh_base_of words ++ codes ".node") nodes_in_text (Ok nodes) × (first ≡ nodes.first)
-IsFirstNumber words folder status first = Unit {0}
-
 -- Done tells nothing. Every other answer has its message
-abbrev pub IsQueryTold : List (List ℕ) → FolderSeen → SinkSeen → WhereStatus → Type 0
-IsQueryTold words folder err Done = IsAsBefore err
-IsQueryTold words folder err status =
-    (first : ℕ) × IsFirstNumber words folder status first × IsMessagePut (query_message_of first status) err
+abbrev pub IsQueryTold : SinkSeen → WhereStatus → Type 0
+IsQueryTold err Done = IsAsBefore err
+IsQueryTold err status = IsMessagePut (query_message_of status) err
 
 -- ---- the end of a run
 
--- a refusal: any answer but Done
-abbrev pub IsRefusal : WhereStatus → Type 0
-IsRefusal Done = ⊥
-IsRefusal status = Unit {0}
-
 -- how a run ends before its message
-abbrev pub QueryEndsSo : List (List ℕ) → FolderSeen → SinkSeen → Result (Unit {0}) Stop → Type 0
+abbrev pub QueryEndsSo : List (List ℕ) → FolderSeen → SinkSeen → Result (Unit {0}) WhereStatus → Type 0
 QueryEndsSo words folder out (Ok done) = IsQueryAnswer words folder out Done
-QueryEndsSo words folder out (Err stop) = IsRefusal stop.status × IsQueryAnswer words folder out stop.status
-    × IsFirstNumber words folder stop.status stop.first
+QueryEndsSo words folder out (Err status) = (status ≢ Done) × IsQueryAnswer words folder out status
 
 -- why the lines are not put, and what that leaves
 abbrev pub IsUnput : List ℕ → SinkSeen → WhereStatus → Type 0
 IsUnput lines out WriteFault = PartlyPut out.written_before lines out.written_now × Rose out.faults_before out.faults_now
-IsUnput lines out NoMemory = IsAsBefore out
+IsUnput lines out (Refused NoMemory) = IsAsBefore out
 IsUnput lines out status = ⊥
 
 -- what the put of the lines leaves
-abbrev pub IsLinesPut : List ℕ → SinkSeen → Result (Unit {0}) Stop → Type 0
+abbrev pub IsLinesPut : List ℕ → SinkSeen → Result (Unit {0}) WhereStatus → Type 0
 IsLinesPut lines out (Ok done) = out.written_now ≡ with_written out.written_before lines
-IsLinesPut lines out (Err stop) = IsUnput lines out stop.status
+IsLinesPut lines out (Err status) = IsUnput lines out status
 
 -- only a fault of the sink comes after something was put
 abbrev pub IsEarlyQuery : WhereStatus → Type 0
@@ -104,7 +88,7 @@ IsEarlyQuery WriteFault = ⊥
 IsEarlyQuery status = Unit {0}
 
 -- a refusal with its message; or out of memory, where an early one had no memory for its message
-abbrev pub IsQueryToldAs : Stop → SinkSeen → WhereStatus → Type 0
-IsQueryToldAs stop err result =
-    ((result ≡ stop.status) × IsMessagePut (query_message_of stop.first stop.status) err)
-    ⊎ ((result ≡ NoMemory) × IsEarlyQuery stop.status × IsMessagePut (query_message_of 0 NoMemory) err)
+abbrev pub IsQueryToldAs : WhereStatus → SinkSeen → WhereStatus → Type 0
+IsQueryToldAs status err result =
+    ((result ≡ status) × IsMessagePut (query_message_of status) err)
+    ⊎ ((result ≡ Refused NoMemory) × IsEarlyQuery status × IsMessagePut (query_message_of (Refused NoMemory)) err)

@@ -12,7 +12,6 @@ mod reading;
 mod run;
 mod settling;
 mod status;
-mod stop;
 mod words;
 
 pub use nearest_laws::{law_held_corner, law_kept_point, law_moved_point};

@@ -1,4 +1,4 @@
-use Rattle.std.proofs.Common.{◌++◌, ◌∙◌, inl, inr, refl, Ok, Err, arith}
+use Rattle.std.proofs.Common.{◌++◌, inl, inr, refl, Ok, Err}
 use Rattle.std.specs.Prelude.{codes}
 use Rattle.std.proofs.lemmas.Result.{err_from_is_err_and}
 use Rattle.mesh_check.specs.Reading.{nodes_in_text, rows_of}

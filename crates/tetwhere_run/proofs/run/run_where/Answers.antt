@@ -4,7 +4,7 @@ use Rattle.tet_ports.specs.Seen.{SinkSeen, sink_seen}
 use Rattle.tetwhere_run.specs.Run.{QueryEndsSo}
 use Rattle.tetwhere_run.specs.declared.status.WhereStatus.TheVariants.{Done}
 use Rattle.tetwhere_run.proofs.Complete.{answer_complete}
-use Rattle.tetwhere_run.proofs.Ends.{stop_answer, stop_told}
+use Rattle.tetwhere_run.proofs.Ends.{refusal_answer, refusal_told}
 use Rattle.tetwhere_run.proofs.run.run_where.Goals as goal
 
 pub returns-in-Ok-clause-complete : goal.returns-in-Ok-clause-complete
@@ -24,7 +24,7 @@ returns-in-Err-clause-complete g c =
     let out : SinkSeen = sink_seen O.state c.args.out.now c.run.new.out in
     let err : SinkSeen = sink_seen E.state c.args.err.now c.tell.new.err in
     let ended = subst (QueryEndsSo c.args.words.now folder out) c.in-Err.is c.run.ensures.ends in
-    answer_complete c.args.words.now folder out c.tell.result (stop_answer c.args.words.now folder out err c.in-Err.stop c.tell.result ended c.tell.ensures)
+    answer_complete c.args.words.now folder out c.tell.result (refusal_answer c.args.words.now folder out err c.in-Err.status c.tell.result ended c.tell.ensures)
 
 pub returns-in-Err-clause-told : goal.returns-in-Err-clause-told
 returns-in-Err-clause-told g c =
@@ -35,4 +35,4 @@ returns-in-Err-clause-told g c =
     let out : SinkSeen = sink_seen O.state c.args.out.now c.run.new.out in
     let err : SinkSeen = sink_seen E.state c.args.err.now c.tell.new.err in
     let ended = subst (QueryEndsSo c.args.words.now folder out) c.in-Err.is c.run.ensures.ends in
-    stop_told c.args.words.now folder out err c.in-Err.stop c.tell.result ended c.tell.ensures
+    refusal_told err c.in-Err.status c.tell.result ended.0 c.tell.ensures
