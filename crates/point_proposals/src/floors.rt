@@ -47,17 +47,26 @@ fn start_on_segments(field: &Field, floors: &mut [u64]) {
     }
 }
 
+/// Lowers the floor at `high` to that at `low` and a length, given by its square. One floor is
+/// greater than the other by more than the length where its square is less than that of the gap.
+fn lower(floors: &mut [u64], low: usize, high: usize, square: u64) {
+    if low < floors.len() && high < floors.len() {
+        let gap = floors[high].saturating_sub(floors[low]);
+        if gap.saturating_mul(gap) > square {
+            floors[high] = floors[low].saturating_add(square.isqrt());
+        }
+    }
+}
+
 /// Lowers the floor of each corner of a tetrahedron to that of another one and the length of the
 /// edge between them.
 fn spread_at(mesh: &Mesh, cell: &Cell, floors: &mut [u64]) {
     for side in cell.edges() {
         let (a, b) = (side.a as usize, side.b as usize);
         if let Some((from, to)) = mesh.ends_of(side) {
-            if a < floors.len() && b < floors.len() {
-                let length = distance(from, to).isqrt();
-                floors[a] = floors[a].min(floors[b].saturating_add(length));
-                floors[b] = floors[b].min(floors[a].saturating_add(length));
-            }
+            let square = distance(from, to);
+            lower(floors, a, b, square);
+            lower(floors, b, a, square);
         }
     }
 }

@@ -97,7 +97,12 @@ impl Cavity {
 
     /// Makes this the cavity of a place that is in all these tetrahedra, and reports whether it is
     /// small enough.
-    fn grow(&mut self, live: &mut Live, p: Spot, seeds: &[u32]) -> Result<bool, NoMemory> {
+    pub(crate) fn grow(
+        &mut self,
+        live: &mut Live,
+        p: Spot,
+        seeds: &[u32],
+    ) -> Result<bool, NoMemory> {
         self.start(live, seeds)?;
         for i in 0..MOST {
             let Some(t) = self.cells.get(i).copied() else {
@@ -200,7 +205,16 @@ impl Cavity {
         site: &Site,
         seeds: &[u32],
     ) -> Result<bool, NoMemory> {
-        if !self.grow(live, p, seeds)? || !self.note_all(live, p, site)? {
+        if !self.grow(live, p, seeds)? {
+            return Ok(false);
+        }
+        self.close(live, p, site)
+    }
+
+    /// Notes the boundary of the cavity of a place, and reports whether the place can be joined
+    /// with it.
+    pub(crate) fn close(&mut self, live: &Live, p: Spot, site: &Site) -> Result<bool, NoMemory> {
+        if !self.note_all(live, p, site)? {
             return Ok(false);
         }
         self.note_rims(site)?;

@@ -148,11 +148,11 @@ impl Mover {
         least: u64,
         allowed: Tally,
     ) -> Result<Option<u64>, NoMemory> {
-        if !self.open(p)? {
+        if !self.cavity.grow(&mut self.live, p, self.seeds.as_slice())? {
             return Ok(None);
         }
         let kept = sine_unmarked(&self.live, self.fill.cells.as_slice());
-        if kept <= least {
+        if kept <= least || !self.cavity.close(&self.live, p, &self.site)? {
             return Ok(None);
         }
         let Some(sine) = self.cavity.sine(&self.live, p, least) else {
