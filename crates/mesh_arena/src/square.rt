@@ -54,6 +54,10 @@ impl Model for Square {
 /// The greatest number of places.
 pub(crate) const PLACES: usize = ROWS * ROWS;
 
+/// The most slots of a mesh for which no places are made: to clear them takes longer than the whole
+/// list of few points.
+const FEW_SLOTS: usize = 256;
+
 impl Square {
     pub(crate) fn new(alloc: Global) -> Self {
         Square {
@@ -76,12 +80,12 @@ impl Square {
         self.rows.start(slots);
     }
 
-    // Makes all places, if there is memory.
-    fn grow(&mut self)
+    // Makes all places for a mesh of more than few slots, if there is memory.
+    fn grow(&mut self, slots: usize)
         requires { self.old.rows ≡ [] }
         ensures { self.new.rows ≡ [] }
     {
-        if self.met.len() < PLACES {
+        if slots > FEW_SLOTS && self.met.len() < PLACES {
             let never = MetFace {
                 slot: 0,
                 round: 0,
@@ -91,12 +95,13 @@ impl Square {
         }
     }
 
-    /// Begins a round, in a mesh of this many slots. Where there is no memory no edge has a place.
+    /// Begins a round, in a mesh of this many slots. Where these are few, or there is no memory, no
+    /// edge has a place.
     pub(crate) fn start(&mut self, slots: usize)
         ensures { MeetsNone (IsInSquare self.new) }
     {
         self.next_round(slots);
-        self.grow();
+        self.grow(slots);
     }
 
     /// The number of places.
