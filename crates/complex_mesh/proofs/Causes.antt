@@ -25,7 +25,7 @@ use Rattle.facet_recover.specs.declared.recover.RecoverFault.TheVariants as reco
 use Rattle.complex_mesh.specs.Faults.{protect_fault, plane_fault, recover_fault}
 use Rattle.complex_mesh.specs.Protection.{AreMeshed, IsProtectedComplex, complex_triangles}
 use Rattle.complex_mesh.specs.Steps.{IsCrossingFault, IsTangleFault}
-use Rattle.complex_mesh.specs.Meshing.{IsMeshFault}
+use Rattle.complex_mesh.specs.Meshing.{IsMeshFault, IsProtectionFault}
 use Rattle.complex_mesh.specs.declared.fault.MeshFault.{MeshFault}
 use Rattle.complex_mesh.specs.declared.fault.MeshFault.TheVariants.{Flat, NotFlat, SegmentsCross, GridEnd, BudgetEnd, Crossing, NoFill, NoMemory}
 use Rattle.complex_mesh.specs.declared.mesh.MeshOptions.{MeshOptions}
@@ -43,12 +43,23 @@ not_flat_cause o ps c bent on h = (solid, h)
         never (sym ((law_flat ps (facet_numbered (facets c) bent.facet)).1 (coplanar_flat ps c on flat bent.facet h.there)) ∙ h.four (record { polygons = []; holes = [] }))
 
 pub protect_cause : (o : MeshOptions) (ps : List Point) (c : Complex) (segs : List Piece) (fs : List Facet) → All (IsFlat ps) (facets c) → AreMeshed o.keep_facets ps c segs fs
-    → (f : ProtectFault) → IsProtectFault o.halvings o.budget ps (pieces ps segs) f → IsMeshFault o ps c (protect_fault f)
+    → (f : ProtectFault) → IsProtectFault o.halvings o.budget ps (pieces ps segs) f → IsProtectionFault o ps c (protect_fault f)
 protect_cause o ps c segs fs flat meshed protection.Flat h = h
 protect_cause o ps c segs fs flat meshed (protection.SegmentsCross one two) h = (segs, fs, h.0, flat, meshed, h.1)
 protect_cause o ps c segs fs flat meshed (protection.GridEnd piece) h = (segs, fs, flat, meshed, h.0, h.1)
 protect_cause o ps c segs fs flat meshed (protection.BudgetEnd made piece) h = (segs, fs, flat, meshed, h.0, h.1, h.2)
 protect_cause o ps c segs fs flat meshed protection.NoMemory h = tt
+
+-- a cause why protection does not end with points is one why there is no mesh
+pub protection_cause : (o : MeshOptions) (ps : List Point) (c : Complex) (f : MeshFault) → IsProtectionFault o ps c f → IsMeshFault o ps c f
+protection_cause o ps c Flat h = h
+protection_cause o ps c (NotFlat facet four) h = h
+protection_cause o ps c (SegmentsCross one two) h = h
+protection_cause o ps c (GridEnd piece) h = h
+protection_cause o ps c (BudgetEnd made piece) h = h
+protection_cause o ps c (Crossing one two) h = absurd h
+protection_cause o ps c (NoFill anomaly) h = absurd h
+protection_cause o ps c NoMemory h = h
 
 pub plane_cause : (qs : List Point) (rest : List Piece) (fs : List Facet) (ts : List FacetTriangle) → ts ≡ complex_triangles qs fs → (f : PlaneFault) → IsPlaneFault qs ts rest f → IsCrossingFault qs rest fs (plane_fault f)
 plane_cause qs rest fs ts e f h = by f (subst (λ us. IsPlaneFault qs us rest f) e h)

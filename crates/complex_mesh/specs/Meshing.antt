@@ -94,6 +94,12 @@ IsMeshFault o ps c (NoFill anomaly) =
     × HasTangle qs (complex_triangles qs fs) (delaunay_rows qs) × AnomalyHolds qs (complex_triangles qs fs) anomaly
 IsMeshFault o ps c NoMemory = Unit {0}
 
+-- why protection of a complex does not end with points
+abbrev pub IsProtectionFault : MeshOptions → List Point → Complex → MeshFault → Type 0
+IsProtectionFault o ps c (Crossing one two) = ⊥
+IsProtectionFault o ps c (NoFill anomaly) = ⊥
+IsProtectionFault o ps c fault = IsMeshFault o ps c fault
+
 -- the answer is a mesh of the complex, or says why there is none
 abbrev pub MeshesSo : MeshOptions → List Point → Complex → Result ComplexMesh MeshFault → Type 0
 MeshesSo o ps c result = MatchResult result (IsComplexMesh o ps c) (IsMeshFault o ps c)

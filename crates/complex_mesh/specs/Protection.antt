@@ -47,6 +47,10 @@ pub record IsProtectedComplex (o : MeshOptions) (ps : List Point) (c : Complex) 
   pub can_split : CanSplit ps (pieces ps segs)
   pub ends : protect o.halvings o.budget ps (pieces ps segs) ≡ Protected qs rest
 
+-- protection of the complex ends with these points
+abbrev pub IsProtectedTo : MeshOptions → List Point → Complex → List Point → Type 0
+IsProtectedTo o ps c qs = (segs : List Piece) × (fs : List Facet) × (rest : List Piece) × IsProtectedComplex o ps c segs fs qs rest
+
 -- the triangles of the facet at a place
 abbrev pub triangles_at : List Point → List Facet → ℕ → List FacetTriangle
 triangles_at qs fs k = facet_triangles qs k (facet_numbered fs k)

@@ -12,4 +12,4 @@ mod recovering;
 pub use fault::MeshFault;
 pub use laws::{law_no_fault, law_one_fault};
 pub use mesh::{ComplexMesh, MeshOptions};
-pub use meshing::mesh_complex;
+pub use meshing::{mesh_complex, protected_points};

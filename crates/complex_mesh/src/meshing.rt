@@ -1,9 +1,10 @@
 //! From points and a complex to the mesh.
-ghost use Rattle.std.specs.Prelude.{All};
+ghost use Rattle.std.specs.Prelude.{All, MatchResult};
 ghost use Rattle.geo_laws.specs.Complex.{facets, HasCornersOf};
 ghost use Rattle.geo_laws.specs.Facet.{IsFlat};
-ghost use Rattle.complex_mesh.specs.Protection.{IsMeshable, AreMeshed};
-ghost use Rattle.complex_mesh.specs.Meshing.{MeshesSo};
+ghost use Rattle.segment_protect.specs.Ends.{HasDelaunayList};
+ghost use Rattle.complex_mesh.specs.Protection.{IsMeshable, AreMeshed, IsProtectedComplex, IsProtectedTo};
+ghost use Rattle.complex_mesh.specs.Meshing.{IsProtectionFault, MeshesSo};
 
 use crate::facets::met_triangles;
 use crate::fault::MeshFault;
@@ -14,8 +15,31 @@ use facet_plane::check_flat;
 use geo_laws::{Complex, Points, Segments};
 use merged_facets::{merge_facets, merged_complex, merged_segments};
 use plc_files::segments;
-use segment_protect::{pieces, protect};
+use segment_protect::{Protected, pieces, protect};
 use std::alloc::Global;
+
+/// Protects a complex whose facets are flat: adds points on its segments until each subsegment is
+/// an edge of a Delaunay tetrahedron. The facets that are meshed are those of `meshed`.
+fn protect_facets(
+    alloc: Global,
+    points: Points,
+    complex: &Complex,
+    segments: &Segments,
+    meshed: &Complex,
+    options: &MeshOptions,
+) -> Result<Protected, MeshFault>
+    requires meshable { IsMeshable options.now.halvings options.now.budget points complex.now }
+    requires flat { All (IsFlat points) (facets complex.now) }
+    requires meshed { AreMeshed options.now.keep_facets points complex.now segments.now
+        (facets meshed.now) }
+    ensures { MatchResult result (λ p. IsProtectedComplex options.now points complex.now segments.now
+        (facets meshed.now) p.points p.pieces × HasDelaunayList p)
+        (IsProtectionFault options.now points complex.now) }
+{
+    let pieces = pieces(alloc, &points, segments)?;
+    let protected = protect(alloc, points, pieces, options.halvings, options.budget)?;
+    Ok(protected)
+}
 
 /// The mesh of a complex whose facets are flat, from its segments and the facets of `meshed`.
 fn mesh_facets(
@@ -33,8 +57,7 @@ fn mesh_facets(
     requires corners { HasCornersOf points meshed.now }
     ensures { MeshesSo options.now points complex.now result }
 {
-    let pieces = pieces(alloc, &points, segments)?;
-    let protected = protect(alloc, points, pieces, options.halvings, options.budget)?;
+    let protected = protect_facets(alloc, points, complex, segments, meshed, options)?;
     let list = &protected.tetrahedra;
     let triangles = met_triangles(alloc, &protected.points, list, &protected.pieces, meshed)?;
     let whole = recovered(alloc, &protected.points, list, &triangles)?;
@@ -78,4 +101,29 @@ pub fn mesh_complex(
     let segments = merged_segments(alloc, complex, &merging)?;
     let merged = merged_complex(alloc, complex, &merging)?;
     mesh_facets(alloc, points, complex, &segments, &merged, options)
+}
+
+/// The points of a complex and those that protection adds behind them: its refusals are those of
+/// `mesh_complex` up to the end of protection.
+pub fn protected_points(
+    alloc: Global,
+    points: Points,
+    complex: &Complex,
+    options: &MeshOptions,
+) -> Result<Points, MeshFault>
+    requires { IsMeshable options.now.halvings options.now.budget points complex.now }
+    ensures { MatchResult result (IsProtectedTo options.now points complex.now)
+        (IsProtectionFault options.now points complex.now) }
+{
+    check_flat(&points, complex)?;
+    if options.keep_facets {
+        let segments = segments(alloc, complex)?;
+        let protected = protect_facets(alloc, points, complex, &segments, complex, options)?;
+        return Ok(protected.points);
+    }
+    let merging = merge_facets(alloc, &points, complex)?;
+    let segments = merged_segments(alloc, complex, &merging)?;
+    let merged = merged_complex(alloc, complex, &merging)?;
+    let protected = protect_facets(alloc, points, complex, &segments, &merged, options)?;
+    Ok(protected.points)
 }

@@ -16,9 +16,9 @@ mod status;
 mod store;
 
 pub use input::{ComplexFile, Fetched, Input, fetch, read_input, with_points};
-pub use mesh::{Bound, bind_input, bind_nodes, complex_meshed, mesh_outputs};
+pub use mesh::{Bound, bind_input, bind_nodes, complex_meshed, mesh_outputs, protected_points};
 pub use meshed::{HulledMesh, Meshed};
-pub use numbering::{Numbering, numbering_of};
+pub use numbering::{Numbering, number_by, numbering_of};
 pub use outputs::{Outputs, outputs_of};
 pub use put::put_unwritten;
 pub use report::{Report, Summary, append_counted, text_of};

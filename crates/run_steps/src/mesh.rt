@@ -1,10 +1,11 @@
 //! Meshes the input of a run.
 
-ghost use Rattle.std.specs.Prelude.{◌≡◌, ◌≤◌, ◌⊎◌, ◌<◌, ◌-◌, ◌+◌, ◌^◌, true, false, Ok, length, drop, AllPairs, IfOk, IfErr, IfSome, OnOk};
+ghost use Rattle.std.specs.Prelude.{◌≡◌, ◌≤◌, ◌⊎◌, ◌<◌, ◌-◌, ◌+◌, ◌^◌, true, false, Ok, length, drop, AllPairs, IfOk, IfErr, IfSome, MatchResult, OnOk};
 ghost use Rattle.command_words.specs.Meaning.{AreInRange};
 ghost use Rattle.geo_laws.specs.Delaunay.{delaunay_rows, AreCoplanar, RowBefore};
 ghost use Rattle.geo_laws.specs.Faces.{AreHullFacesOf};
-ghost use Rattle.complex_mesh.specs.Meshing.{MeshesSo};
+ghost use Rattle.complex_mesh.specs.Meshing.{IsProtectionFault, MeshesSo};
+ghost use Rattle.complex_mesh.specs.Protection.{IsProtectedTo};
 ghost use Rattle.node_files.specs.Folding.{names_with};
 ghost use Rattle.node_files.specs.Limits.{AreIndexable};
 ghost use Rattle.node_files.specs.Writing.{IsNearGrid, IsNodeTable};
@@ -310,6 +311,28 @@ fn made_of(alloc: Global, options: &Options, bound: &Bound) -> Result<ComplexMes
 {
     let points = points_from(alloc, &bound.table.points, 0)?;
     mesh_complex(
+        alloc,
+        points,
+        &bound.complex,
+        &mesh_options(options, &bound.table),
+    )
+}
+
+/// The points of an input and, behind them, those that protection of its complex adds.
+pub fn protected_points(
+    alloc: Global,
+    options: &Options,
+    bound: &Bound,
+) -> Result<Points, MeshFault>
+    requires { IsMeshableBound options.now bound.now }
+    ensures { MatchResult result
+        (IsProtectedTo (mesh_options options.now bound.now.table) bound.now.table.points
+        bound.now.complex)
+        (IsProtectionFault (mesh_options options.now bound.now.table) bound.now.table.points
+        bound.now.complex) }
+{
+    let points = points_from(alloc, &bound.table.points, 0)?;
+    complex_mesh::protected_points(
         alloc,
         points,
         &bound.complex,

@@ -45,7 +45,7 @@ pub(crate) fn number_of(by: &Option<Numbering>, point: u32) -> usize
 
 /// The number of a point: a kept one has that of its place in the input, an added one a number
 /// behind all those of the input.
-fn number_by(by: &Numbering, point: u32) -> usize
+pub fn number_by(by: &Numbering, point: u32) -> usize
     ensures { result ≡ number_by by.now point }
 {
     let place = point as usize;
