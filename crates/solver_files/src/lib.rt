@@ -22,6 +22,7 @@ pub use format::{write_second_whole, write_whole};
 pub use laws::{law_msh_text, law_vtk_text};
 pub use mesh::WholeMesh;
 pub use msh::write_msh;
+pub use place::put_place_from_origin;
 pub use second_files::{write_second_ele, write_second_face, write_second_node};
 pub use second_laws::{
     law_middles, law_second_ele_text, law_second_face_text, law_second_msh_text,

@@ -1,7 +1,7 @@
 //! Points as text.
 ghost use Rattle.std.specs.Prelude.{◌≡◌, ◌≤◌, ◌++◌, ◌∷◌, Some, OnOk};
 ghost use Rattle.grid_coords.specs.Origins.{IsNear};
-ghost use Rattle.node_files.specs.Writing.{fields_from, place_fields};
+ghost use Rattle.node_files.specs.Writing.{fields_from, place_fields, IsNearGrid};
 ghost use Rattle.solver_files.specs.Mesh.{mesh_of, place_text, spaced, IsWritten};
 
 use crate::WholeMesh;
@@ -39,14 +39,28 @@ fn put_place_from(
     print_from(o.z, grid, p.z, out)
 }
 
-/// Appends the coordinates of a point, with a space between two of them.
+/// Appends the coordinates of a point, measured from an origin where there is one, with a space
+/// between two of them.
+pub fn put_place_from_origin(
+    origin: &Option<WholePoint>,
+    grid: &Grid,
+    p: GridPoint,
+    out: &mut Bytes,
+) -> Result<(), NoMemory>
+    requires halvings { grid.now.halvings ≤ 18 }
+    requires near { IsNearGrid origin.now grid.now }
+    ensures { OnOk result (out.new ≡ out.old ++ spaced (fields_from origin.now grid.now p)) }
+{
+    match origin {
+        None => put_grid_place(grid, p, out),
+        Some(o) => put_place_from(o, grid, p, out),
+    }
+}
+
+/// Appends the coordinates of a point of a mesh.
 pub(crate) fn put_place(mesh: &WholeMesh<'_>, p: GridPoint, out: &mut Bytes) -> Result<(), NoMemory>
     requires { IsWritten (mesh_of mesh.now) }
     ensures { OnOk result (out.new ≡ out.old ++ place_text (mesh_of mesh.now) p) }
 {
-    let grid = &mesh.table.grid;
-    match &mesh.origin {
-        None => put_grid_place(grid, p, out),
-        Some(o) => put_place_from(o, grid, p, out),
-    }
+    put_place_from_origin(&mesh.origin, &mesh.table.grid, p, out)
 }
