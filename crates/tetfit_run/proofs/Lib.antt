@@ -13,6 +13,7 @@ mod Tries
 mod PartsBefore
 mod Halvings
 mod Missing
+mod Placements
 mod RoundedFirst
 mod Openings
 mod FacetSides

@@ -7,6 +7,7 @@ use Rattle.simplex_meets.specs.declared.complex_parts.Part.{Part}
 use Rattle.simplex_meets.specs.declared.complex_parts.Part.TheVariants.{Triangle, Segment as SegmentPart}
 use Rattle.command_words.specs.declared.options.Options.{Options}
 use Rattle.geo_laws.specs.Complex.{Complex}
+use Rattle.geo_laws.specs.Delaunay.{point}
 use Rattle.geo_laws.specs.declared.complex.Facet.{Facet}
 use Rattle.geo_laws.specs.declared.complex.Piece.{Piece}
 use Rattle.grid_coords.specs.Choice.{is_over, most_decimals}
@@ -14,8 +15,10 @@ use Rattle.grid_coords.specs.declared.grid.Grid.{Grid as ModelGrid}
 use Rattle.grid_coords.specs.declared.points.DecimalPoint.{DecimalPoint}
 use Rattle.grid_coords.specs.declared.origin.WholePoint.{WholePoint}
 use Rattle.tetfit_run.specs.Apart.{file_point, TellsHelp}
+use Rattle.tetfit_run.specs.Coordinates.{on_grid_text}
 use Rattle.tetfit_run.specs.Grids.{point_at}
 use Rattle.node_files.specs.declared.limits.Limits.{Limits}
+use Rattle.run_steps.specs.Numbering.{number_by}
 use Rattle.run_steps.specs.declared.input.Input.{Input}
 use Rattle.run_steps.specs.declared.mesh.Bound.{Bound}
 use Rattle.run_steps.specs.declared.numbering.Numbering.{Numbering}
@@ -24,6 +27,8 @@ use Rattle.run_steps.specs.declared.status.Status.{Status}
 use Rattle.run_steps.specs.declared.status.Status.TheVariants.{Limit, Flat, NotFlat, SegmentsCross, Crossing, GridEnd, BudgetEnd}
 use Rattle.tet_text.specs.Printing.{decimal_text, sign_text, size_text}
 use Rattle.tetfit_run.specs.Measured.{BoundTried, MeshedTried}
+use Rattle.tetfit_run.specs.Placed.{IsPlaced}
+use Rattle.tetfit_run.specs.declared.placed.Placed.{Placed}
 use Rattle.tetfit_run.specs.declared.model.Stated.{Stated}
 use Rattle.tetfit_run.specs.declared.model.Stated.TheVariants.{Lines, Facets}
 
@@ -37,20 +42,27 @@ number_text by n = if nat_lt n (length by.names) then codes " " ++ decimal (slic
 unfoldable pub at_text : DecimalPoint → List ℕ
 at_text p = codes " (" ++ decimal_text p.x ++ codes " " ++ decimal_text p.y ++ codes " " ++ decimal_text p.z ++ codes ")"
 
-abbrev pub place_text : List DecimalPoint → Numbering → ℕ → List ℕ
-place_text points by n = option_map_or at_text (file_point points by n) []
+-- the coordinates of an added point, where the points are placed on their grid
+abbrev pub added_text : Option Placed → ℕ → List ℕ
+added_text None n = []
+added_text (Some placed) n = if nat_lt n (length placed.points) then on_grid_text placed.frame (point placed.points n) else []
+
+-- the coordinates of a point: of one of the file as the file has them, and of an added one on the grid
+abbrev pub place_text : List DecimalPoint → Numbering → Option Placed → ℕ → List ℕ
+place_text points by placed n = option_map_or at_text (file_point points by n) (added_text placed n)
 
 -- the number of a point and its coordinates
-abbrev pub corner_text : List DecimalPoint → Numbering → ℕ → List ℕ
-corner_text points by n = number_text by n ++ place_text points by n
+abbrev pub corner_text : List DecimalPoint → Numbering → Option Placed → ℕ → List ℕ
+corner_text points by placed n = codes " " ++ decimal (number_by by n) ++ place_text points by placed n
 
-abbrev pub corners_text : List DecimalPoint → Numbering → Part → List ℕ
-corners_text points by (Triangle t) = corner_text points by t.a ++ corner_text points by t.b ++ corner_text points by t.c
-corners_text points by (SegmentPart p) = corner_text points by p.a ++ corner_text points by p.b
+abbrev pub corners_text : List DecimalPoint → Numbering → Option Placed → Part → List ℕ
+corners_text points by placed (Triangle t) =
+    corner_text points by placed t.a ++ corner_text points by placed t.b ++ corner_text points by placed t.c
+corners_text points by placed (SegmentPart p) = corner_text points by placed p.a ++ corner_text points by placed p.b
 
--- the line of a triangle or a segment: its corners that the file has
-abbrev pub part_line : List DecimalPoint → Numbering → Part → List ℕ
-part_line points by part = codes "tetfit: points" ++ corners_text points by part ++ codes "\n"
+-- the line of a triangle or a segment: its corners
+abbrev pub part_line : List DecimalPoint → Numbering → Option Placed → Part → List ℕ
+part_line points by placed part = codes "tetfit: points" ++ corners_text points by placed part ++ codes "\n"
 
 -- ---- the segment that a piece lies on
 
@@ -194,8 +206,9 @@ pub record TellsRounded (limits : Limits) (options : Options) (input : Input) (b
   pub is : lines ≡ line ++ grid_line options.halvings grid ++ rounding_text options input.nodes.decimals
 
 -- the lines of two parts, and the line on rounded coordinates
-abbrev pub parts_text : Options → List DecimalPoint → Numbering → Part → Part → List ℕ
-parts_text options points by one two = part_line points by one ++ part_line points by two ++ rounding_text options points
+abbrev pub parts_text : Options → List DecimalPoint → Numbering → Option Placed → Part → Part → List ℕ
+parts_text options points by placed one two =
+    part_line points by placed one ++ part_line points by placed two ++ rounding_text options points
 
 -- the file has more decimals than the coordinates were rounded to
 abbrev pub is_rounded : Option ℕ → ℕ → Bool
@@ -210,15 +223,22 @@ parts_help true =
     ++ codes "tetfit: if not, rounding made them meet: move them apart, or try other decimals by --decimals=M\n"
 
 -- the lines of two parts that cross, with what would help
-abbrev pub crossing_text : Options → List DecimalPoint → Numbering → Part → Part → List ℕ
-crossing_text options points by one two =
-    parts_text options points by one two ++ parts_help (is_rounded options.decimals (most_decimals points))
+abbrev pub crossing_text : Options → List DecimalPoint → Numbering → Option Placed → Part → Part → List ℕ
+crossing_text options points by placed one two =
+    parts_text options points by placed one two ++ parts_help (is_rounded options.decimals (most_decimals points))
+
+-- such lines, with the coordinates of added points
+pub record TellsCrossing (limits : Limits) (options : Options) (input : Input) (by : Numbering) (one two : Part) (lines : List ℕ)
+    : Type 0 where
+  pub placed : Placed
+  pub of_model : IsPlaced limits options input placed
+  pub is : lines ≡ crossing_text options input.nodes.decimals by (Some placed) one two
 
 -- the lines of two segments, with what would help
 abbrev pub TellsSegments : Options → List DecimalPoint → Numbering → Piece → Piece → List ℕ → Type 0
 TellsSegments options points by one two lines =
     (help : List ℕ) × TellsHelp points by one two help
-    × (lines ≡ parts_text options points by (SegmentPart one) (SegmentPart two) ++ help)
+    × (lines ≡ parts_text options points by None (SegmentPart one) (SegmentPart two) ++ help)
 
 -- the lines that follow the message on an input with these options, refused with the status, its points numbered by
 -- `by`
@@ -226,7 +246,7 @@ abbrev pub IsHintBy : Limits → Options → Input → Numbering → Status → 
 IsHintBy limits options input by Flat lines = lines ≡ flat_text options input.nodes.decimals
 IsHintBy limits options input by (NotFlat facet four) lines = lines ≡ rounding_text options input.nodes.decimals
 IsHintBy limits options input by (SegmentsCross one two) lines = TellsSegments options input.nodes.decimals by one two lines
-IsHintBy limits options input by (Crossing one two) lines = lines ≡ crossing_text options input.nodes.decimals by one two
+IsHintBy limits options input by (Crossing one two) lines = TellsCrossing limits options input by one two lines
 IsHintBy limits options input by (GridEnd piece) lines = TellsRounded limits options input by piece lines
 IsHintBy limits options input by (BudgetEnd made piece) lines = TellsSegment limits options input by piece lines
 IsHintBy limits options input by status lines = lines ≡ []

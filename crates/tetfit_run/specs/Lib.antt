@@ -16,6 +16,7 @@ pub mod Holes
 pub mod Keyword
 pub mod Models
 pub mod Opening
+pub mod Placed
 pub mod Sides
 pub mod Trial
 pub mod Trying

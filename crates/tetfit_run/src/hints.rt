@@ -5,13 +5,15 @@ ghost use Rattle.std.specs.Prelude.{◌≡◌, ◌≤◌, ◌++◌, length, Some
 ghost use Rattle.grid_coords.specs.Choice.{most_decimals};
 ghost use Rattle.grid_coords.specs.Origins.{IsNear};
 ghost use Rattle.node_files.specs.Limits.{AreIndexable};
+ghost use Rattle.refining.specs.Rounds.{IsPrintable};
 ghost use Rattle.run_steps.specs.Reading.{IsSound};
 ghost use Rattle.tetfit_run.specs.Hints.{hinted_facet_text, first_facet, grid_hint, parts_text};
-ghost use Rattle.tetfit_run.specs.Hints.{crossing_text, grid_front, grid_help, grid_line, is_rounded, parts_help, IsGridOf};
+ghost use Rattle.tetfit_run.specs.Hints.{grid_front, grid_help, grid_line, is_rounded, parts_help, IsGridOf};
 ghost use Rattle.tetfit_run.specs.Hints.{flat_line, flat_text, half_unit, moved_line, moved_text};
 ghost use Rattle.tetfit_run.specs.Hints.{rounded_line, rounded_text, rounding_text};
 ghost use Rattle.tetfit_run.specs.Hints.{segment_line, HasPoints, IsHint, IsHintBy, IsLineOf};
-ghost use Rattle.tetfit_run.specs.Hints.{IsMissing, TellsRounded, TellsSegment, TellsSegments};
+ghost use Rattle.tetfit_run.specs.Hints.{IsMissing, TellsCrossing, TellsRounded, TellsSegment, TellsSegments};
+ghost use Rattle.tetfit_run.specs.Placed.{HasCrossing};
 ghost use Rattle.tetfit_run.specs.Trial.{AreInTriedRange};
 ghost use Rattle.tetfit_run.specs.Trying.{at_decimals, IsNumbered, IsNumberedAt};
 
@@ -21,6 +23,7 @@ use crate::facets::first_facet;
 use crate::fitting::Refused;
 use crate::grids::first_off;
 use crate::model::Model;
+use crate::placed::{Placed, placed_of};
 use crate::places::{append_name, append_part, off_grid_text};
 use crate::trial::Trial;
 use crate::wholes::whole_of;
@@ -284,16 +287,18 @@ fn parts_hint(
     alloc: Global,
     trial: &Trial,
     by: &Numbering,
+    placed: &Option<Placed>,
     one: Part,
     two: Part,
 ) -> Result<Bytes, NoMemory>
-    ensures { IfOk result (λ lines. lines
-        ≡ parts_text trial.now.options trial.now.input.nodes.decimals by.now one two) }
+    requires { IfSome placed.now (λ p. IsPrintable p.frame) }
+    ensures { IfOk result (λ lines. lines ≡ parts_text trial.now.options
+        trial.now.input.nodes.decimals by.now placed.now one two) }
 {
     let points = trial.input.nodes.decimals.as_slice();
     let mut text = Bytes::new(alloc);
-    append_part(&mut text, points, by, one)?;
-    append_part(&mut text, points, by, two)?;
+    append_part(&mut text, points, by, placed, one)?;
+    append_part(&mut text, points, by, placed, two)?;
     append_rounding(&mut text, trial.options, points)?;
     Ok(text)
 }
@@ -322,7 +327,7 @@ fn parts_help(rounded: bool) -> &'static [u8]
     }
 }
 
-/// The lines of two crossing parts, and what would help them.
+/// The lines of two crossing parts with the coordinates of their corners, and what would help them.
 fn crossing_hint(
     alloc: Global,
     trial: &Trial,
@@ -330,11 +335,13 @@ fn crossing_hint(
     one: Part,
     two: Part,
 ) -> Result<Bytes, NoMemory>
-    ensures { IfOk result (λ lines. lines
-        ≡ crossing_text trial.now.options trial.now.input.nodes.decimals by.now one two) }
+    requires { HasCrossing trial.now.limits trial.now.options trial.now.input }
+    ensures { IfOk result (TellsCrossing trial.now.limits trial.now.options
+        trial.now.input by.now one two) }
 {
     let points = trial.input.nodes.decimals.as_slice();
-    let mut text = parts_hint(alloc, trial, by, one, two)?;
+    let placed = Some(placed_of(alloc, trial)?);
+    let mut text = parts_hint(alloc, trial, by, &placed, one, two)?;
     text.append(parts_help(is_rounded(trial.options, points)))?;
     Ok(text)
 }
@@ -352,7 +359,8 @@ fn segments_hint(
 {
     let points = trial.input.nodes.decimals.as_slice();
     let apart = are_apart(alloc, points, by, one, two)?;
-    let mut text = parts_hint(alloc, trial, by, Part::Segment(one), Part::Segment(two))?;
+    let (first, second) = (Part::Segment(one), Part::Segment(two));
+    let mut text = parts_hint(alloc, trial, by, &None, first, second)?;
     text.append(crossing_help(apart))?;
     Ok(text)
 }

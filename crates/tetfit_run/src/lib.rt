@@ -24,6 +24,7 @@ mod names;
 mod opening;
 mod outputs;
 mod page;
+mod placed;
 mod places;
 mod reason;
 mod refined;

@@ -1,15 +1,18 @@
 //! Points of a model by their numbers and coordinates.
 
-ghost use Rattle.std.specs.Prelude.{◌≡◌, ◌++◌, [], drop, slice_get, option_copied, OnOk, IfOk};
+ghost use Rattle.std.specs.Prelude.{◌≡◌, ◌++◌, [], Some, drop, slice_get, option_copied, OnOk, IfOk, IfSome};
 ghost use Rattle.std.specs.Option.{option_map_or};
+ghost use Rattle.refining.specs.Rounds.{IsPrintable};
 ghost use Rattle.tetfit_run.specs.Apart.{file_point};
-ghost use Rattle.tetfit_run.specs.Hints.{at_line, at_text, corner_text, corners_text, front_of, front_text, has_text, number_text};
+ghost use Rattle.tetfit_run.specs.Hints.{added_text, at_line, at_text, corner_text, corners_text, front_of, front_text, has_text, number_text};
 ghost use Rattle.tetfit_run.specs.Hints.{help_of_grid, off_grid_lines, part_line, place_text, point_line, point_lines, refusal_line};
 
+use crate::coordinates::append_on_grid;
 use crate::model::Stated;
+use crate::placed::Placed;
 use grid_coords::DecimalPoint;
 use mesh_check::append_number;
-use run_steps::Numbering;
+use run_steps::{Numbering, number_by};
 use simplex_meets::Part;
 use std::alloc::Global;
 use tet_ports::{Bytes, NoMemory};
@@ -41,17 +44,6 @@ fn append_at(text: &mut Bytes, p: &DecimalPoint) -> Result<(), NoMemory>
     text.append(b")")
 }
 
-/// Appends the coordinates of a point, where there is one.
-fn append_found(text: &mut Bytes, found: Option<&DecimalPoint>) -> Result<(), NoMemory>
-    ensures { OnOk result (text.new
-        ≡ text.old ++ option_map_or at_text (option_copied found.entry) []) }
-{
-    match found {
-        Some(p) => append_at(text, p),
-        None => Ok(()),
-    }
-}
-
 /// The point at this place.
 fn found_at(points: &[DecimalPoint], place: usize) -> Option<&DecimalPoint>
     ensures { option_copied result ≡ slice_get (drop place points.now) 0 }
@@ -79,16 +71,45 @@ pub(crate) fn file_point<'a>(
     }
 }
 
-/// Appends the coordinates of a point of the file; nothing of an added one.
+/// Appends the coordinates of a point by its number on the grid.
+fn append_placed(text: &mut Bytes, placed: &Placed, point: u32) -> Result<(), NoMemory>
+    requires { IsPrintable placed.now.frame }
+    ensures { OnOk result (text.new ≡ text.old ++ added_text (Some placed.now) point) }
+{
+    let place = point as usize;
+    if place < placed.points.len() {
+        append_on_grid(text, &placed.frame, placed.points.at(place))
+    } else {
+        Ok(())
+    }
+}
+
+/// Appends the coordinates of an added point, where the points are placed on their grid.
+fn append_added(text: &mut Bytes, placed: &Option<Placed>, point: u32) -> Result<(), NoMemory>
+    requires { IfSome placed.now (λ p. IsPrintable p.frame) }
+    ensures { OnOk result (text.new ≡ text.old ++ added_text placed.now point) }
+{
+    match placed {
+        Some(placed) => append_placed(text, placed, point),
+        None => Ok(()),
+    }
+}
+
+/// Appends the coordinates of a point: of one of the file as the file has them.
 fn append_place(
     text: &mut Bytes,
     points: &[DecimalPoint],
     by: &Numbering,
+    placed: &Option<Placed>,
     point: u32,
 ) -> Result<(), NoMemory>
-    ensures { OnOk result (text.new ≡ text.old ++ place_text points.now by.now point) }
+    requires { IfSome placed.now (λ p. IsPrintable p.frame) }
+    ensures { OnOk result (text.new ≡ text.old ++ place_text points.now by.now placed.now point) }
 {
-    append_found(text, file_point(points, by, point))
+    match file_point(points, by, point) {
+        Some(p) => append_at(text, p),
+        None => append_added(text, placed, point),
+    }
 }
 
 /// Appends the number of a point and its coordinates.
@@ -96,46 +117,53 @@ fn append_corner(
     text: &mut Bytes,
     points: &[DecimalPoint],
     by: &Numbering,
+    placed: &Option<Placed>,
     point: u32,
 ) -> Result<(), NoMemory>
-    ensures { OnOk result (text.new ≡ text.old ++ corner_text points.now by.now point) }
+    requires { IfSome placed.now (λ p. IsPrintable p.frame) }
+    ensures { OnOk result (text.new ≡ text.old ++ corner_text points.now by.now placed.now point) }
 {
-    append_name(text, by, point)?;
-    append_place(text, points, by, point)
+    text.append(b" ")?;
+    append_number(text, number_by(by, point))?;
+    append_place(text, points, by, placed, point)
 }
 
 fn append_corners(
     text: &mut Bytes,
     points: &[DecimalPoint],
     by: &Numbering,
+    placed: &Option<Placed>,
     part: Part,
 ) -> Result<(), NoMemory>
-    ensures { OnOk result (text.new ≡ text.old ++ corners_text points.now by.now part) }
+    requires { IfSome placed.now (λ p. IsPrintable p.frame) }
+    ensures { OnOk result (text.new ≡ text.old ++ corners_text points.now by.now placed.now part) }
 {
     match part {
         Part::Triangle(t) => {
-            append_corner(text, points, by, t.a)?;
-            append_corner(text, points, by, t.b)?;
-            append_corner(text, points, by, t.c)
+            append_corner(text, points, by, placed, t.a)?;
+            append_corner(text, points, by, placed, t.b)?;
+            append_corner(text, points, by, placed, t.c)
         }
         Part::Segment(p) => {
-            append_corner(text, points, by, p.a)?;
-            append_corner(text, points, by, p.b)
+            append_corner(text, points, by, placed, p.a)?;
+            append_corner(text, points, by, placed, p.b)
         }
     }
 }
 
-/// Appends the line of a triangle or a segment: its corners that the file has.
+/// Appends the line of a triangle or a segment: its corners.
 pub(crate) fn append_part(
     text: &mut Bytes,
     points: &[DecimalPoint],
     by: &Numbering,
+    placed: &Option<Placed>,
     part: Part,
 ) -> Result<(), NoMemory>
-    ensures { OnOk result (text.new ≡ text.old ++ part_line points.now by.now part) }
+    requires { IfSome placed.now (λ p. IsPrintable p.frame) }
+    ensures { OnOk result (text.new ≡ text.old ++ part_line points.now by.now placed.now part) }
 {
     text.append(b"tetfit: points")?;
-    append_corners(text, points, by, part)?;
+    append_corners(text, points, by, placed, part)?;
     text.append(b"\n")
 }
 

@@ -177,13 +177,24 @@ or drop one of equal ones\n\
 tetfit: if not, rounding made them meet: move them apart, \
 or try other decimals by --decimals=M\n";
 
+/// Two triangles that cross once points are added on their sides.
+const HALVED: &[u8] = b"\
+8 3 0 0\n1 7 2 0\n2 1 9 8\n3 6 0 3\n4 9 5 4\n5 7 6 2\n6 0 0 7\n7 5 3 2\n8 9 2 6\n\
+2 0\n1\n3 1 2 3\n1\n3 4 5 6\n0\n";
+
+const HALVED_TOLD: &[u8] = b"\
+tetfit: crossing: facet 1 triangle 9 10 16 and facet 2 triangle 12 14 15\n\
+tetfit: points 9 (4 5.5 4) 10 (5.5 3.75 2) 16 (4.125 3.375 4.875)\n\
+tetfit: points 12 (3.5 3 4.5) 14 (5.25 4.5 3.25) 15 (4.5 2.5 5.5)\n\
+tetfit: give both parts the points in which they meet, or drop one of equal ones\n";
+
 const FLATTENED_TOLD: &[u8] = b"\
 tetfit: all points lie in one plane\n\
 tetfit: coordinates were rounded to 35 decimals, of 36 that the file has\n\
 tetfit: four points that are not in one plane are wanted\n";
 
 /// The message on a model beside the status.
-static TOLD: [Run<'static>; 15] = [
+static TOLD: [Run<'static>; 16] = [
     Run {
         name: "off each grid",
         held: &[(b"t.node", &[FAR])],
@@ -280,6 +291,13 @@ static TOLD: [Run<'static>; 15] = [
         held: &[(b"w.poly", &[PIERCED])],
         words: &[b"-c", b"--decimals=0", b"w.poly"],
         end: Refused(6, PIERCED_TOLD),
+        files: &[],
+    },
+    Run {
+        name: "crossing facets, with added corners",
+        held: &[(b"w.poly", &[HALVED])],
+        words: &[b"w.poly"],
+        end: Refused(6, HALVED_TOLD),
         files: &[],
     },
     Run {
