@@ -1,5 +1,5 @@
 -- Segments that cross once coordinates are rounded, and do not cross in the file.
-use Rattle.std.specs.Prelude.{◌≡◌, ℕ, ◌==◌, nat_lt, Bool, true, false, length, drop, slice_get, slice_index, List, [], ◌∷◌, codes, Option, Some, None, Ok, if◌then◌else◌}
+use Rattle.std.specs.Prelude.{◌≡◌, ℕ, ◌==◌, nat_lt, Bool, true, false, length, drop, slice_get, slice_index, List, [], ◌∷◌, ◌++◌, codes, Option, Some, None, Ok, if◌then◌else◌}
 use Rattle.sign_predicates.specs.Point.{Point}
 use Rattle.geo_laws.specs.Simplex.{ProperlyMet}
 use Rattle.geo_laws.specs.declared.complex.Piece.{Piece}
@@ -45,14 +45,26 @@ pub record AreApart (points : List DecimalPoint) (by : Numbering) (one two : Pie
   pub on_grid : ArePlaced ends placed
   pub met : AreSegmentsMet one two placed
 
--- what would help: where they are apart in the file, and where they are not known to be
-abbrev pub crossing_help : Bool → List ℕ
-crossing_help true =
-    codes "tetfit: they do not cross in the file, rounding made them: move them apart, or try fewer decimals by --decimals=M\n"
-crossing_help false = codes "tetfit: give both segments the point at which they cross\n"
+-- fewer decimals may help, whether they are apart in the file or not
+abbrev pub fewer_text : Bool → List ℕ
+fewer_text true = codes ", or try fewer decimals by --decimals=M"
+fewer_text false = codes ", or where the last digits alone make them cross, try fewer decimals by --decimals=M"
 
--- the line on what would help two segments that cross once coordinates are rounded
-pub record TellsHelp (points : List DecimalPoint) (by : Numbering) (one two : Piece) (line : List ℕ) : Type 0 where
+-- the same where coordinates are rounded to some decimals, of which there can be fewer
+abbrev pub fewer_help : Option ℕ → Bool → List ℕ
+fewer_help None apart = []
+fewer_help (Some m) apart = if nat_lt 0 m then fewer_text apart else []
+
+-- what would help: where they are apart in the file, and where they are not known to be
+abbrev pub crossing_front : Bool → List ℕ
+crossing_front true = codes "tetfit: they do not cross in the file, rounding made them: move them apart"
+crossing_front false = codes "tetfit: give both segments the point at which they cross"
+
+abbrev pub crossing_help : Option ℕ → Bool → List ℕ
+crossing_help decimals apart = crossing_front apart ++ fewer_help decimals apart ++ codes "\n"
+
+-- the line on what would help two segments that cross once coordinates are rounded to so many decimals
+pub record TellsHelp (decimals : Option ℕ) (points : List DecimalPoint) (by : Numbering) (one two : Piece) (line : List ℕ) : Type 0 where
   pub apart : Bool
   pub is : apart ≡ true → AreApart points by one two
-  pub told : line ≡ crossing_help apart
+  pub told : line ≡ crossing_help decimals apart

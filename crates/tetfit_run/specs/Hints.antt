@@ -237,7 +237,7 @@ pub record TellsCrossing (limits : Limits) (options : Options) (input : Input) (
 -- the lines of two segments, with what would help
 abbrev pub TellsSegments : Options → List DecimalPoint → Numbering → Piece → Piece → List ℕ → Type 0
 TellsSegments options points by one two lines =
-    (help : List ℕ) × TellsHelp points by one two help
+    (help : List ℕ) × TellsHelp options.decimals points by one two help
     × (lines ≡ parts_text options points by None (SegmentPart one) (SegmentPart two) ++ help)
 
 -- the lines that follow the message on an input with these options, refused with the status, its points numbered by

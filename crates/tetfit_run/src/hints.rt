@@ -17,7 +17,7 @@ ghost use Rattle.tetfit_run.specs.Placed.{HasCrossing};
 ghost use Rattle.tetfit_run.specs.Trial.{AreInTriedRange};
 ghost use Rattle.tetfit_run.specs.Trying.{at_decimals, IsNumbered, IsNumberedAt};
 
-use crate::apart::{are_apart, crossing_help};
+use crate::apart::{append_crossing_help, are_apart};
 use crate::copies::{at_decimals, tried_nodes};
 use crate::facets::first_facet;
 use crate::fitting::Refused;
@@ -361,7 +361,7 @@ fn segments_hint(
     let apart = are_apart(alloc, points, by, one, two)?;
     let (first, second) = (Part::Segment(one), Part::Segment(two));
     let mut text = parts_hint(alloc, trial, by, &None, first, second)?;
-    text.append(crossing_help(apart))?;
+    append_crossing_help(&mut text, trial.options.decimals, apart)?;
     Ok(text)
 }
 

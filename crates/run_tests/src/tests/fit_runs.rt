@@ -110,7 +110,8 @@ const CROSSED_TOLD: &[u8] = b"\
 tetfit: segments 1 2 and 3 4 cross\n\
 tetfit: points 1 (0 0 0) 2 (2.5 2.5 0)\n\
 tetfit: points 3 (0 2 0) 4 (2 0 0)\n\
-tetfit: give both segments the point at which they cross\n";
+tetfit: give both segments the point at which they cross, or where the last digits alone \
+make them cross, try fewer decimals by --decimals=M\n";
 
 const BEAM_TOLD: &[u8] = b"\
 tetfit: 1 splits used, segment 4 17 is missing\n\
@@ -152,7 +153,8 @@ tetfit: segments 1 2 and 3 4 cross\n\
 tetfit: points 1 (0 0 0) 2 (2.5 2.5 0)\n\
 tetfit: points 3 (0 2 0) 4 (2 0 0)\n\
 tetfit: coordinates were rounded to 8 decimals, of 9 that the file has\n\
-tetfit: give both segments the point at which they cross\n";
+tetfit: give both segments the point at which they cross, or where the last digits alone \
+make them cross, try fewer decimals by --decimals=M\n";
 
 const GRAZED_TOLD: &[u8] = b"\
 tetfit: segments 1 2 and 3 4 cross\n\
