@@ -1,11 +1,11 @@
 //! The cavity of a place: the tetrahedra whose circumspheres have it inside, without those behind
 //! walls, and its boundary.
 use crate::live::{Across, Live, face_at, is_large};
-use crate::sine::least_sine;
+use crate::sine::{has_sine_over, least_sine};
 use crate::site::Site;
 use crate::tally::Tally;
 use geo_laws::{Face, Side, face_of, side_of};
-use mesh_parts::{Spot, circumsphere};
+use mesh_parts::{Spot, circumsphere, volume};
 use std::alloc::Global;
 use tet_ports::NoMemory;
 
@@ -43,6 +43,31 @@ pub(crate) struct Cavity {
     pub(crate) walls: Vec<Wall>,
     pub(crate) rims: Vec<Rim>,
     floors: Vec<Floor>,
+    /// A face, by its tetrahedron and the corner opposite, at which a place could not be joined.
+    failed: Option<(u32, usize)>,
+}
+
+/// What a face of a tetrahedron of a cavity is.
+#[derive(Clone, Copy)]
+enum Noted {
+    /// Between two tetrahedra of the cavity, or at the end of a facet in which the place lies.
+    Inner,
+    /// In a facet in which the place lies, with a tetrahedron across that is not of the cavity.
+    Open,
+    /// Of the boundary.
+    Wall,
+}
+
+/// Whether a place is on the inner side of a face of the boundary, and the squares of the sines of
+/// the tetrahedron between both are over `least`. In facets that the place lies in the three faces
+/// at the place may be left out.
+fn is_joined(live: &Live, p: Spot, site: &Site, least: u64, wall: &Wall) -> bool {
+    let Some([a, b, c]) = live.triangle(&wall.face) else {
+        return false;
+    };
+    let is_flank = !site.facets.is_empty();
+    let walls = [is_flank, is_flank, is_flank, wall.across.facet.is_some()];
+    volume(a, b, c, p) > 0 && has_sine_over(&[a, b, c, p], walls, least)
 }
 
 /// The sides of a face.
@@ -62,6 +87,7 @@ impl Cavity {
             walls: Vec::new(alloc),
             rims: Vec::new(alloc),
             floors: Vec::new(alloc),
+            failed: None,
         }
     }
 
@@ -72,7 +98,7 @@ impl Cavity {
         };
         for across in cell.across {
             if let (Some(n), None) = (across.cell, across.facet) {
-                if live.has(n, p) && live.enter(n) {
+                if !live.is_marked(n) && live.has(n, p) && live.enter(n) {
                     self.cells.push(n)?;
                 }
             }
@@ -113,8 +139,8 @@ impl Cavity {
         Ok(false)
     }
 
-    /// Notes a face of the cavity, and reports whether the place is on its inner side.
-    fn note(&mut self, live: &Live, p: Spot, site: &Site, wall: Wall) -> Result<bool, NoMemory> {
+    /// Notes a face of the cavity, and reports whether it is of the boundary.
+    fn note(&mut self, live: &Live, site: &Site, wall: Wall) -> Result<Noted, NoMemory> {
         let Across { cell, facet } = wall.across;
         let is_marked = match cell {
             Some(n) => live.is_marked(n),
@@ -125,17 +151,29 @@ impl Cavity {
                 let [a, b, c] = wall.face;
                 let face = face_of(a, b, c);
                 self.floors.push(Floor { facet, face })?;
-                return Ok(is_marked || cell.is_none());
+                return Ok(if is_marked || cell.is_none() {
+                    Noted::Inner
+                } else {
+                    Noted::Open
+                });
             }
         } else if is_marked {
-            return Ok(true);
+            return Ok(Noted::Inner);
         }
         self.walls.push(wall)?;
-        Ok(live.volume_to(&wall.face, p).unwrap_or(0) > 0)
+        Ok(Noted::Wall)
     }
 
-    /// Notes the faces of a tetrahedron of the cavity.
-    fn note_cell(&mut self, live: &Live, p: Spot, site: &Site, t: u32) -> Result<bool, NoMemory> {
+    /// Notes the faces of a tetrahedron of the cavity, and reports whether the place can be joined
+    /// with each so that the square of a sine is over `least`.
+    fn note_cell(
+        &mut self,
+        live: &Live,
+        p: Spot,
+        site: &Site,
+        least: u64,
+        t: u32,
+    ) -> Result<bool, NoMemory> {
         let Some(cell) = live.cell(t) else {
             return Ok(false);
         };
@@ -145,24 +183,61 @@ impl Cavity {
                 across: cell.across[k],
                 most: cell.most,
             };
-            if !self.note(live, p, site, wall)? {
-                return Ok(false);
+            match self.note(live, site, wall)? {
+                Noted::Open => return Ok(false),
+                Noted::Wall if !is_joined(live, p, site, least, &wall) => {
+                    self.failed = Some((t, k));
+                    return Ok(false);
+                }
+                _ => {}
             }
         }
         Ok(true)
     }
 
     /// Notes the faces of all tetrahedra of the cavity.
-    fn note_all(&mut self, live: &Live, p: Spot, site: &Site) -> Result<bool, NoMemory> {
+    fn note_all(
+        &mut self,
+        live: &Live,
+        p: Spot,
+        site: &Site,
+        least: u64,
+    ) -> Result<bool, NoMemory> {
         for i in 0..self.cells.len() {
             let Some(t) = self.cells.get(i).copied() else {
                 break
             };
-            if !self.note_cell(live, p, site, t)? {
+            if !self.note_cell(live, p, site, least, t)? {
                 return Ok(false);
             }
         }
         Ok(true)
+    }
+
+    /// Whether the face at which a place could not be joined last is one of the boundary of this
+    /// cavity too, and its place can't be joined with it.
+    pub(crate) fn fails_again(&self, live: &Live, p: Spot, site: &Site, least: u64) -> bool {
+        let Some((t, k)) = self.failed else {
+            return false;
+        };
+        let Some(cell) = live.cell(t) else {
+            return false;
+        };
+        if k >= 4 || !live.is_marked(t) {
+            return false;
+        }
+        let across = cell.across[k];
+        let is_wall = match (across.cell, across.facet) {
+            (_, Some(facet)) => !site.facets.contains(&facet),
+            (Some(n), None) => !live.is_marked(n),
+            (None, None) => true,
+        };
+        let wall = Wall {
+            face: face_at(&cell.corners, k),
+            across,
+            most: cell.most,
+        };
+        is_wall && !is_joined(live, p, site, least, &wall)
     }
 
     /// Appends the edges of a face in a facet.
@@ -208,13 +283,20 @@ impl Cavity {
         if !self.grow(live, p, seeds)? {
             return Ok(false);
         }
-        self.close(live, p, site)
+        self.close(live, p, site, 0)
     }
 
     /// Notes the boundary of the cavity of a place, and reports whether the place can be joined
-    /// with it.
-    pub(crate) fn close(&mut self, live: &Live, p: Spot, site: &Site) -> Result<bool, NoMemory> {
-        if !self.note_all(live, p, site)? {
+    /// with it, as far as it is known without the rims so that the least square of a sine is over
+    /// `least`.
+    pub(crate) fn close(
+        &mut self,
+        live: &Live,
+        p: Spot,
+        site: &Site,
+        least: u64,
+    ) -> Result<bool, NoMemory> {
+        if !self.note_all(live, p, site, least)? {
             return Ok(false);
         }
         self.note_rims(site)?;

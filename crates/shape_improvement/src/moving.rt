@@ -151,8 +151,11 @@ impl Mover {
         if !self.cavity.grow(&mut self.live, p, self.seeds.as_slice())? {
             return Ok(None);
         }
+        if self.cavity.fails_again(&self.live, p, &self.site, least) {
+            return Ok(None);
+        }
         let kept = sine_unmarked(&self.live, self.fill.cells.as_slice());
-        if kept <= least || !self.cavity.close(&self.live, p, &self.site)? {
+        if kept <= least || !self.cavity.close(&self.live, p, &self.site, least)? {
             return Ok(None);
         }
         let Some(sine) = self.cavity.sine(&self.live, p, least) else {

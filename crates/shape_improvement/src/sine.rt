@@ -41,6 +41,33 @@ fn sine_unless(u: Spot, v: Spot, is_left_out: bool) -> u64 {
     if is_left_out { RIGHT } else { sine_of(u, v) }
 }
 
+/// Whether the square of the sine of the angle of two vectors of 15 bits is over this one, or the
+/// angle is left out.
+fn is_over(u: Spot, v: Spot, least: u64, is_left_out: bool) -> bool {
+    if is_left_out {
+        return true;
+    }
+    let cosine = product(u, v);
+    let lengths = product(u, u).wrapping_mul(product(v, v)) / RIGHT;
+    let most = RIGHT.saturating_sub(least);
+    cosine.wrapping_mul(cosine) < most.wrapping_mul(lengths)
+}
+
+/// Whether the least square of the sine of a dihedral angle of a tetrahedron, as `least_sine` has
+/// it, is over this one.
+pub(crate) fn has_sine_over(s: &[Spot; 4], walls: [bool; 4], least: u64) -> bool {
+    let [p, q, r, t] = walls;
+    let (d, a, b) = (normal_of(s, 3), normal_of(s, 0), normal_of(s, 1));
+    if !is_over(a, d, least, p && t) || !is_over(b, d, least, q && t) {
+        return false;
+    }
+    let c = normal_of(s, 2);
+    is_over(c, d, least, r && t)
+        && is_over(a, b, least, p && q)
+        && is_over(a, c, least, p && r)
+        && is_over(b, c, least, q && r)
+}
+
 /// The least square of the sine of a dihedral angle of a tetrahedron, those between two of the
 /// walls left out. It stands for how well shaped the tetrahedron is.
 pub(crate) fn least_sine(s: &[Spot; 4], walls: [bool; 4]) -> u64 {
