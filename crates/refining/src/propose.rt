@@ -31,7 +31,8 @@ pub trait Propose {
         halvings: u32,
     ) -> Result<Option<Points>, NoMemory>;
 
-    /// Whether a mesh is better than another one with other points behind the first `own`.
+    /// Whether a mesh is better than another one with other points behind the first `own`: than the
+    /// best one of those that were compared, once there are such.
     fn is_better(
         &mut self,
         alloc: Global,

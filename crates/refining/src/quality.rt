@@ -17,6 +17,8 @@ pub struct Quality<'a> {
     shapes: &'a ShapeBounds,
     splits_boundary: bool,
     progress: Progress,
+    /// The grade of the best mesh, where one was compared.
+    best: Option<Grade>,
 }
 
 impl<'a> Quality<'a> {
@@ -27,6 +29,7 @@ impl<'a> Quality<'a> {
             shapes,
             splits_boundary,
             progress: Progress::new(),
+            best: None,
         }
     }
 
@@ -138,7 +141,12 @@ impl<'a> Propose for Quality<'a> {
         own: usize,
     ) -> Result<bool, NoMemory> {
         let grade = self.grade(alloc, mesh, own)?;
-        let other = self.grade(alloc, than, own)?;
-        Ok(grade.is_better(&other) && self.has_few_slim(mesh, than))
+        let best = match self.best {
+            Some(best) => best,
+            None => self.grade(alloc, than, own)?,
+        };
+        let is_better = grade.is_better(&best) && self.has_few_slim(mesh, than);
+        self.best = Some(if is_better { grade } else { best });
+        Ok(is_better)
     }
 }
