@@ -325,8 +325,10 @@ impl<'a> Refiner<'a> {
             return Ok(());
         }
         self.is_last = false;
+        self.region.asks_by = false;
         if self.try_center(asked.place, &asked.lengths)? == Answer::Refused {
             self.is_last = true;
+            self.region.asks_by = true;
             self.try_center(asked.place, &asked.lengths)?;
         }
         Ok(())

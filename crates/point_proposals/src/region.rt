@@ -31,6 +31,8 @@ pub(crate) struct Region {
     pub(crate) cells: Vec<u32>,
     pub(crate) nearest: u64,
     pub(crate) nearest_by: u64,
+    /// Whether the nearest corner by the part is asked for.
+    pub(crate) asks_by: bool,
     marks: Vec<u32>,
     mark: u32,
 }
@@ -44,6 +46,7 @@ impl Region {
             cells: Vec::new(alloc),
             nearest: 0,
             nearest_by: 0,
+            asks_by: false,
             marks,
             mark: 0,
         })
@@ -74,10 +77,18 @@ impl Region {
     /// Notes the distance to a corner, unless it is inside of a part that meets the part at less
     /// than 60 degrees.
     fn measure(&mut self, field: &Field, v: u32, square: u64, part: Option<Part>) {
-        if square >= self.nearest_by || field.parts.meet(part, field.parts.at(v)) {
+        let least = if self.asks_by {
+            self.nearest_by
+        } else {
+            self.nearest
+        };
+        if square >= least || field.parts.meet(part, field.parts.at(v)) {
             return;
         }
         self.nearest = self.nearest.min(square);
+        if !self.asks_by {
+            return;
+        }
         let is_by = match part {
             Some(part) => field.parts.is_by(v, part),
             None => true,
