@@ -65,7 +65,7 @@ fn around_of(alloc: Global, mesh: &Mesh) -> Result<Table, NoMemory> {
         let Ok(place) = u32::try_from(i) else { break };
         note_edges(mesh, place, &mut entries)?;
     }
-    Table::new(alloc, entries, mesh.subsegments.len())
+    Table::of_ascending(alloc, entries.as_slice(), mesh.subsegments.len())
 }
 
 /// The tetrahedra beside each subface.
@@ -75,7 +75,7 @@ fn beside_of(alloc: Global, mesh: &Mesh) -> Result<Table, NoMemory> {
         let Ok(place) = u32::try_from(i) else { break };
         note_faces(mesh, place, &mut entries)?;
     }
-    Table::new(alloc, entries, mesh.subfaces.len())
+    Table::of_ascending(alloc, entries.as_slice(), mesh.subfaces.len())
 }
 
 impl<'a> Field<'a> {

@@ -22,7 +22,7 @@ fn subsegments_at(alloc: Global, mesh: &Mesh) -> Result<Table, NoMemory> {
         let Side { a, b } = mesh.subsegments[i];
         entries.extend_from_slice(&[Entry { key: a, value }, Entry { key: b, value }])?;
     }
-    Table::new(alloc, entries, mesh.spots.len())
+    Table::of_ascending(alloc, entries.as_slice(), mesh.spots.len())
 }
 
 /// The entries of a number at the corners of a face.
@@ -42,7 +42,7 @@ fn subfaces_at(alloc: Global, mesh: &Mesh) -> Result<Table, NoMemory> {
         let Ok(value) = u32::try_from(i) else { break };
         entries.extend_from_slice(&at_corners(&mesh.faces[i], value))?;
     }
-    Table::new(alloc, entries, mesh.spots.len())
+    Table::of_ascending(alloc, entries.as_slice(), mesh.spots.len())
 }
 
 /// The facets at each point.
@@ -65,7 +65,7 @@ fn subfaces_beside(alloc: Global, mesh: &Mesh) -> Result<Table, NoMemory> {
             }
         }
     }
-    Table::new(alloc, entries, mesh.subsegments.len())
+    Table::of_ascending(alloc, entries.as_slice(), mesh.subsegments.len())
 }
 
 impl Stars {
