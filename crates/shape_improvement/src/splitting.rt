@@ -241,7 +241,7 @@ impl Mover {
     }
 
     /// Puts a new point in where this betters a tetrahedron much, and reports whether it does. Where
-    /// this was tried in vain twice the tetrahedron is let alone.
+    /// this was tried in vain the tetrahedron is let alone.
     pub(crate) fn split(
         &mut self,
         t: u32,

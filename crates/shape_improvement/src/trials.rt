@@ -5,7 +5,7 @@ use std::collections::HashMap;
 use tet_ports::NoMemory;
 
 /// After how many trials in vain a tetrahedron or a star is let alone.
-const MOST: u8 = 2;
+const MOST: u8 = 1;
 
 /// How often tetrahedra and stars were tried in vain, each known by a hash of its corners, so that
 /// it is known again in a later mesh. Where two have one hash, both are let alone earlier.
