@@ -214,7 +214,7 @@ impl Mover {
             return Ok(false);
         };
         let mut best = self.much_over(cell.sine, middle);
-        for k in 3..12 {
+        for k in [7, 4, 10] {
             if let Some(p) = self.place_on(edge, k) {
                 self.attempt_new(&target, p, &mut best)?;
             }
