@@ -214,22 +214,23 @@ impl Cavity {
         Ok(true)
     }
 
-    /// Whether the face at which a place could not be joined last is one of the boundary of this
-    /// cavity too, and its place can't be joined with it.
-    pub(crate) fn fails_again(&self, live: &Live, p: Spot, site: &Site, least: u64) -> bool {
+    /// Whether the face at which a place could not be joined last seems to be one of the boundary of
+    /// the cavity of another place too, by the two spheres there, and that place can't be joined
+    /// with it either. The cavity is not yet grown.
+    pub(crate) fn seems_to_fail(&self, live: &Live, p: Spot, site: &Site, least: u64) -> bool {
         let Some((t, k)) = self.failed else {
             return false;
         };
-        let Some(cell) = live.cell(t) else {
+        let Some(cell) = live.live(t) else {
             return false;
         };
-        if k >= 4 || !live.is_marked(t) {
+        if k >= 4 || !live.has(t, p) {
             return false;
         }
         let across = cell.across[k];
         let is_wall = match (across.cell, across.facet) {
             (_, Some(facet)) => !site.facets.contains(&facet),
-            (Some(n), None) => !live.is_marked(n),
+            (Some(n), None) => !live.has(n, p),
             (None, None) => true,
         };
         let wall = Wall {

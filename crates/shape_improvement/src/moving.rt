@@ -151,9 +151,6 @@ impl Mover {
         if !self.cavity.grow(&mut self.live, p, self.seeds.as_slice())? {
             return Ok(None);
         }
-        if self.cavity.fails_again(&self.live, p, &self.site, least) {
-            return Ok(None);
-        }
         let kept = sine_unmarked(&self.live, self.fill.cells.as_slice());
         if kept <= least || !self.cavity.close(&self.live, p, &self.site, least)? {
             return Ok(None);
@@ -219,7 +216,10 @@ impl Mover {
             return Ok(());
         };
         let near = self.near();
-        if !self.seed(freedom, near, spot)? {
+        let seems_vain = self
+            .cavity
+            .seems_to_fail(&self.live, spot, &self.site, best.sine);
+        if seems_vain || !self.seed(freedom, near, spot)? {
             return Ok(());
         }
         if let Some(sine) = self.judge(spot, best.sine, allowed)? {

@@ -39,6 +39,12 @@ impl Mover {
 
     /// Tries a place for a new point.
     fn attempt_new(&mut self, target: &Target, p: Spot, best: &mut Best) -> Result<(), NoMemory> {
+        if self
+            .cavity
+            .seems_to_fail(&self.live, p, &self.site, best.sine)
+        {
+            return Ok(());
+        }
         if self.site.edge.is_none() && !self.seed(target.freedom, target.place, p)? {
             return Ok(());
         }
