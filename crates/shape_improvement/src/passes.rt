@@ -128,6 +128,7 @@ impl Mover {
         trials: &mut Trials,
     ) -> Result<usize, NoMemory> {
         let asked = asked_of(self.alloc, field, &self.live, self.aim)?;
+        trials.set_most(asked.len(), self.live.cells.len());
         let mut count = 0_usize;
         for asked in asked.as_slice() {
             if self.vain == 0 {

@@ -4,14 +4,16 @@ use std::alloc::Global;
 use std::collections::HashMap;
 use tet_ports::NoMemory;
 
-/// After how many trials in vain a tetrahedron or a star is let alone.
-const MOST: u8 = 1;
+/// After how many trials in vain a tetrahedron or a star is let alone, where few are asked for.
+const MOST: u8 = 2;
 
 /// How often tetrahedra and stars were tried in vain, each known by a hash of its corners, so that
 /// it is known again in a later mesh. Where two have one hash, both are let alone earlier.
 #[derive(Drop)]
 pub struct Trials {
     counts: HashMap<u64, u8>,
+    /// After how many trials in vain one is let alone.
+    most: u8,
 }
 
 /// A number whose low bits depend on all bits of this one.
@@ -41,7 +43,14 @@ impl Trials {
     pub fn new(alloc: Global) -> Self {
         Trials {
             counts: HashMap::new(alloc),
+            most: MOST,
         }
+    }
+
+    /// Sets after how many trials in vain one is let alone: once where more than one in 64 of all
+    /// tetrahedra is asked for.
+    pub(crate) fn set_most(&mut self, asked: usize, all: usize) {
+        self.most = if asked > all / 64 { 1 } else { MOST };
     }
 
     /// How often the one with this hash was tried in vain.
@@ -51,7 +60,7 @@ impl Trials {
 
     /// Whether the one with this hash is let alone.
     pub(crate) fn is_spent(&self, code: u64) -> bool {
-        self.count(code) >= MOST
+        self.count(code) >= self.most
     }
 
     /// Notes that the one with this hash was tried in vain.
