@@ -62,9 +62,10 @@ enum Noted {
 /// the tetrahedron between both are over `least`. In facets that the place lies in the three faces
 /// at the place may be left out.
 fn is_joined(live: &Live, p: Spot, site: &Site, least: u64, wall: &Wall) -> bool {
-    let Some([a, b, c]) = live.triangle(&wall.face) else {
+    let Some(corners) = live.triangle(&wall.face) else {
         return false;
     };
+    let [a, b, c] = corners;
     let is_flank = !site.facets.is_empty();
     let walls = [is_flank, is_flank, is_flank, wall.across.facet.is_some()];
     volume(a, b, c, p) > 0 && has_sine_over(&[a, b, c, p], walls, least)
@@ -214,8 +215,8 @@ impl Cavity {
         Ok(true)
     }
 
-    /// Whether the face at which a place could not be joined last seems to be one of the boundary of
-    /// the cavity of another place too, by the two spheres there, and that place can't be joined
+    /// Whether the face at which a place could not be joined last seems to be one of the boundary
+    /// of the cavity of another place too, by the two spheres there, and that place can't be joined
     /// with it either. The cavity is not yet grown.
     pub(crate) fn seems_to_fail(&self, live: &Live, p: Spot, site: &Site, least: u64) -> bool {
         let Some((t, k)) = self.failed else {

@@ -246,8 +246,8 @@ impl Mover {
         Ok(false)
     }
 
-    /// Puts a new point in where this betters a tetrahedron much, and reports whether it does. Where
-    /// this was tried in vain the tetrahedron is let alone.
+    /// Puts a new point in where this betters a tetrahedron much, and reports whether it does.
+    /// Where this was tried in vain the tetrahedron is let alone.
     pub(crate) fn split(
         &mut self,
         t: u32,
