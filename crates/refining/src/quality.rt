@@ -74,6 +74,7 @@ impl<'a> Quality<'a> {
             halvings,
             own,
             splits_boundary: self.splits_boundary,
+            is_mending: false,
         }
     }
 

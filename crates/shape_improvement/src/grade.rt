@@ -27,6 +27,25 @@ fn is_wall(beyond: Beyond) -> bool {
     }
 }
 
+/// The least square of the sine of a dihedral angle of a tetrahedron.
+fn sine_at(mesh: &Mesh, t: u32) -> Option<u64> {
+    let [p, q, r, s] = mesh.cell(t)?.across;
+    let walls = [is_wall(p), is_wall(q), is_wall(r), is_wall(s)];
+    Some(least_sine(&mesh.corners(t)?, walls))
+}
+
+/// Whether a tetrahedron of a mesh has a dihedral angle below the aim.
+pub(crate) fn has_flat(mesh: &Mesh, aim: &Aim) -> bool {
+    let least = aimed_sine(aim.cosine);
+    for i in 0..mesh.cells.len() {
+        let Ok(t) = u32::try_from(i) else { break };
+        if sine_at(mesh, t).unwrap_or(RIGHT) < least {
+            return true;
+        }
+    }
+    false
+}
+
 impl Grade {
     /// The grade of no tetrahedra, where this square of a sine is aimed at.
     fn none(aim: u64) -> Grade {
@@ -41,11 +60,9 @@ impl Grade {
 
     /// Counts a tetrahedron, with its greatest six-fold volume.
     fn count(&mut self, mesh: &Mesh, t: u32, bounds: &Bounds, most: i128) {
-        let (Some(spots), Some(cell)) = (mesh.corners(t), mesh.cell(t)) else {
+        let (Some(spots), Some(sine)) = (mesh.corners(t), sine_at(mesh, t)) else {
             return;
         };
-        let [p, q, r, s] = cell.across;
-        let sine = least_sine(&spots, [is_wall(p), is_wall(q), is_wall(r), is_wall(s)]);
         self.worst = self.worst.min(sine);
         if sine < self.aim {
             self.flat = self.flat.wrapping_add(1);
@@ -56,6 +73,11 @@ impl Grade {
         if is_slim_exactly(bounds, &spots) {
             self.slim = self.slim.wrapping_add(1);
         }
+    }
+
+    /// How many tetrahedra fewer have an angle below the aim than in a mesh of the other grade.
+    pub fn mended(&self, than: &Grade) -> usize {
+        than.flat.saturating_sub(self.flat)
     }
 
     /// Whether a mesh of this grade is better than one of the other grade: no more tetrahedra are

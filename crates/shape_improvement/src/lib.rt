@@ -22,5 +22,6 @@ mod trials;
 mod walk;
 
 pub use grade::{Grade, grade_of};
+pub use moving::SPARE;
 pub use passes::{Aim, improve};
 pub use trials::Trials;

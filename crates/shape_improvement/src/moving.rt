@@ -4,8 +4,9 @@ use crate::dice::Dice;
 use crate::fill::Fill;
 use crate::joining::join_all;
 use crate::live::{Cell, Freedom, Live, face_at};
+use crate::passes::Aim;
 use crate::search::{Best, Search, TRIES, with_length};
-use crate::sine::RIGHT;
+use crate::sine::{RIGHT, aimed_sine};
 use crate::site::Site;
 use crate::star::Star;
 use crate::tally::{Tally, sine_of, sine_unmarked, tally_of};
@@ -19,6 +20,9 @@ use tet_ports::NoMemory;
 /// How many tetrahedra of a small mesh may be tried in vain.
 const FEW: usize = 1000;
 
+/// How many slim tetrahedra more a change may leave where the least angles are mended.
+pub const SPARE: i64 = 5;
+
 /// The mesh that is changed, with the buffers for it.
 #[derive(Drop)]
 pub(crate) struct Mover {
@@ -31,6 +35,9 @@ pub(crate) struct Mover {
     pub(crate) aim: u64,
     /// Whether points may be put in on segments and in facets.
     pub(crate) splits_boundary: bool,
+    /// Whether tetrahedra in folds are bettered too, and each change may leave `SPARE` slim
+    /// tetrahedra more.
+    pub(crate) is_mending: bool,
     /// How many tetrahedra may still be tried in vain.
     pub(crate) vain: usize,
     pub(crate) star: Star,
@@ -42,27 +49,30 @@ pub(crate) struct Mover {
 
 impl Mover {
     /// Nothing moved yet.
-    pub(crate) fn new(
-        alloc: Global,
-        live: Live,
-        halvings: u32,
-        aim: u64,
-        splits_boundary: bool,
-    ) -> Self {
+    pub(crate) fn new(alloc: Global, live: Live, aim: &Aim) -> Self {
         let vain = live.cells.len() / 4;
         Mover {
             alloc,
             live,
             dice: Dice::new(),
-            halvings,
-            aim,
-            splits_boundary,
+            halvings: aim.halvings,
+            aim: aimed_sine(aim.cosine),
+            splits_boundary: aim.splits_boundary,
+            is_mending: aim.is_mending,
             vain: vain.saturating_add(FEW),
             star: Star::new(alloc),
             fill: Fill::new(alloc),
             cavity: Cavity::new(alloc),
             site: Site::new(alloc),
             seeds: Vec::new(alloc),
+        }
+    }
+
+    /// How many tetrahedra more may break the bounds after a change than before.
+    pub(crate) fn spare(&self) -> Tally {
+        Tally {
+            slim: if self.is_mending { SPARE } else { 0 },
+            large: 0,
         }
     }
 
@@ -410,7 +420,8 @@ impl Mover {
         if !self.fill.open(self.alloc, &mut self.live, &self.star, v)? {
             return Ok(false);
         }
-        let allowed = before.less(tally_of(&self.live, self.fill.cells.as_slice()));
+        let filled = tally_of(&self.live, self.fill.cells.as_slice());
+        let allowed = before.plus(self.spare()).less(filled);
         if self.relocate(v, &search, old, allowed)? {
             self.live.discard(self.star.cells.as_slice())?;
             return Ok(true);

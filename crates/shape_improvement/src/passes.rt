@@ -1,8 +1,8 @@
 //! Passes over the tetrahedra whose dihedral angles are below the aim.
 use crate::entering::live_of;
+use crate::grade::has_flat;
 use crate::live::{Bounds, Cell, Live, corner_off, face_at};
 use crate::moving::Mover;
-use crate::sine::aimed_sine;
 use crate::trials::Trials;
 use geo_laws::{FacetTriangles, Points, TetList};
 use mesh_parts::{Field, grid_point, mesh_of};
@@ -32,6 +32,9 @@ pub struct Aim<'a> {
     pub own: usize,
     /// Whether points may be put in on segments and in facets.
     pub splits_boundary: bool,
+    /// Whether tetrahedra in folds are bettered too, and each change may leave `SPARE` slim
+    /// tetrahedra more.
+    pub is_mending: bool,
 }
 
 /// A tetrahedron that is to be bettered. Those with the least angles come first.
@@ -39,28 +42,6 @@ pub struct Aim<'a> {
 struct Asked {
     sine: u64,
     place: u32,
-}
-
-/// Whether a tetrahedron is to be bettered, where this square of a sine is aimed at.
-fn is_asked(field: &Field, cell: &Cell, aim: u64) -> bool {
-    cell.is_live
-        && cell.sine < aim
-        && cell.failures < TRIALS
-        && !field.parts.is_in_fold(&cell.corners)
-}
-
-/// The tetrahedra that are to be bettered, those with the least angles first.
-fn asked_of(alloc: Global, field: &Field, live: &Live, aim: u64) -> Result<Vec<Asked>, NoMemory> {
-    let mut asked = Vec::new(alloc);
-    for i in 0..live.cells.len() {
-        let Ok(place) = u32::try_from(i) else { break };
-        if is_asked(field, &live.cells[i], aim) {
-            let sine = live.cells[i].sine;
-            asked.push(Asked { sine, place })?;
-        }
-    }
-    asked.sort()?;
-    Ok(asked)
 }
 
 /// The corner of the tetrahedron across a face that is not on the face.
@@ -74,6 +55,29 @@ fn corner_across(live: &Live, cell: &Cell, k: usize) -> Option<u32> {
 }
 
 impl Mover {
+    /// Whether a tetrahedron is to be bettered.
+    fn is_asked(&self, field: &Field, cell: &Cell) -> bool {
+        cell.is_live
+            && cell.sine < self.aim
+            && cell.failures < TRIALS
+            && (self.is_mending || !field.parts.is_in_fold(&cell.corners))
+    }
+
+    /// The tetrahedra that are to be bettered, those with the least angles first.
+    fn asked(&self, field: &Field) -> Result<Vec<Asked>, NoMemory> {
+        let mut asked = Vec::new(self.alloc);
+        for i in 0..self.live.cells.len() {
+            let Ok(place) = u32::try_from(i) else { break };
+            let cell = &self.live.cells[i];
+            if self.is_asked(field, cell) {
+                let sine = cell.sine;
+                asked.push(Asked { sine, place })?;
+            }
+        }
+        asked.sort()?;
+        Ok(asked)
+    }
+
     /// Moves a corner of a tetrahedron, and reports whether one was moved.
     fn shift_corners(&mut self, cell: &Cell, trials: &mut Trials) -> Result<bool, NoMemory> {
         for v in cell.corners {
@@ -127,7 +131,7 @@ impl Mover {
         splits: bool,
         trials: &mut Trials,
     ) -> Result<usize, NoMemory> {
-        let asked = asked_of(self.alloc, field, &self.live, self.aim)?;
+        let asked = self.asked(field)?;
         trials.set_most(asked.len(), self.live.cells.len());
         let mut count = 0_usize;
         for asked in asked.as_slice() {
@@ -164,16 +168,13 @@ pub fn improve(
     trials: &mut Trials,
 ) -> Result<Option<Points>, NoMemory> {
     let mesh = mesh_of(alloc, points, tetrahedra, triangles, aim.own)?;
+    if !has_flat(&mesh, aim) {
+        return Ok(None);
+    }
     let field = Field::new(alloc, &mesh, aim.own)?;
     let bounds = Bounds { ratio: aim.ratio };
     let live = live_of(alloc, &field, aim.own, bounds, aim.mosts)?;
-    let mut mover = Mover::new(
-        alloc,
-        live,
-        aim.halvings,
-        aimed_sine(aim.cosine),
-        aim.splits_boundary,
-    );
+    let mut mover = Mover::new(alloc, live, aim);
     let mut changed = 0_usize;
     for pass in 0..PASSES {
         let count = mover.pass(&field, pass > 0, trials)?;

@@ -3,7 +3,6 @@ use crate::live::{Cell, Freedom, Live, Vertex, face_at, shortest};
 use crate::moving::Mover;
 use crate::search::{Best, TRIES, radius_of};
 use crate::sine::RIGHT;
-use crate::tally::Tally;
 use crate::trials::{Trials, tet_code};
 use geo_laws::{Side, side_of};
 use mesh_parts::{Sphere, Spot, distance, equator};
@@ -48,7 +47,7 @@ impl Mover {
         if self.site.edge.is_none() && !self.seed(target.freedom, target.place, p)? {
             return Ok(());
         }
-        let Some(sine) = self.judge(p, best.sine, Tally::none())? else {
+        let Some(sine) = self.judge(p, best.sine, self.spare())? else {
             return Ok(());
         };
         if self.live.is_marked(target.place) && self.nearest(p) >= target.square {
