@@ -35,8 +35,8 @@ pub(crate) struct Mover {
     pub(crate) aim: u64,
     /// Whether points may be put in on segments and in facets.
     pub(crate) splits_boundary: bool,
-    /// Whether tetrahedra in folds are bettered too, and each change may leave `SPARE` slim
-    /// tetrahedra more.
+    /// Whether tetrahedra in folds are bettered too, points are put in close beside a tetrahedron
+    /// too, and each change may leave `SPARE` slim tetrahedra more.
     pub(crate) is_mending: bool,
     /// How many tetrahedra may still be tried in vain.
     pub(crate) vain: usize,

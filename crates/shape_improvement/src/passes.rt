@@ -32,8 +32,8 @@ pub struct Aim<'a> {
     pub own: usize,
     /// Whether points may be put in on segments and in facets.
     pub splits_boundary: bool,
-    /// Whether tetrahedra in folds are bettered too, and each change may leave `SPARE` slim
-    /// tetrahedra more.
+    /// Whether tetrahedra in folds are bettered too, points are put in close beside a tetrahedron
+    /// too, and each change may leave `SPARE` slim tetrahedra more.
     pub is_mending: bool,
 }
 

@@ -1,15 +1,18 @@
 //! Points that are put in where this betters a tetrahedron much.
 use crate::live::{Cell, Freedom, Live, Vertex, face_at, shortest};
 use crate::moving::Mover;
-use crate::search::{Best, TRIES, radius_of};
+use crate::search::{Best, TRIES, radius_of, with_length};
 use crate::sine::RIGHT;
 use crate::trials::{Trials, tet_code};
 use geo_laws::{Side, side_of};
-use mesh_parts::{Sphere, Spot, distance, equator};
+use mesh_parts::{Sphere, Spot, centroid, distance, equator};
 use tet_ports::NoMemory;
 
 /// The most tetrahedra at an edge.
 const MOST: usize = 60;
+
+/// How many places are tried beside each face of a tetrahedron.
+const BESIDE: u32 = 24;
 
 /// What a new point is to better: a tetrahedron, of which it is to keep a distance, given by its
 /// square.
@@ -24,6 +27,32 @@ struct Target {
 fn least_to(live: &Live, face: &[u32; 3], p: Spot) -> Option<u64> {
     let [a, b, c] = live.triangle(face)?;
     Some(distance(a, p).min(distance(b, p)).min(distance(c, p)))
+}
+
+/// The length with a square, rounded down.
+fn length_of(square: u64) -> i64 {
+    i64::try_from(square.isqrt()).unwrap_or(0)
+}
+
+/// The square of the longest edge of a tetrahedron.
+fn longest(s: &[Spot; 4]) -> u64 {
+    let [a, b, c, d] = *s;
+    let first = distance(a, b).max(distance(a, c)).max(distance(a, d));
+    first
+        .max(distance(b, c))
+        .max(distance(b, d))
+        .max(distance(c, d))
+}
+
+/// How far beside a tetrahedron with these least and greatest lengths of edges a point is tried,
+/// the `k`-th time.
+fn height_at(short: i64, long: i64, k: u32) -> i64 {
+    match k % 4 {
+        0 => short / 2,
+        1 => short,
+        2 => short.wrapping_add(long) / 4,
+        _ => long / 2,
+    }
 }
 
 impl Mover {
@@ -120,6 +149,56 @@ impl Mover {
             square: square / 3,
         };
         self.split_near(&target, sphere, cell.sine)
+    }
+
+    /// Tries places for a new point beyond a face of a tetrahedron, over and near to the centroid.
+    fn attempt_beside(
+        &mut self,
+        target: &Target,
+        spots: &[Spot; 4],
+        face: &[u32; 3],
+        best: &mut Best,
+    ) -> Result<(), NoMemory> {
+        let Some([a, b, c]) = self.live.triangle(face) else {
+            return Ok(());
+        };
+        let outward = c.from(a).cross(b.from(a));
+        let (short, long) = (length_of(shortest(spots)), length_of(longest(spots)));
+        for k in 0..BESIDE {
+            let reach = if k < 4 { 0 } else { long / 4 };
+            let base = self.dice.near(centroid(spots), reach);
+            let wish = base.plus(with_length(outward, height_at(short, long, k)));
+            if let Some(p) = self.place_near(Freedom::Anywhere, wish) {
+                self.attempt_new(target, p, best)?;
+            }
+            if best.is_found && best.sine > self.aim {
+                break;
+            }
+        }
+        Ok(())
+    }
+
+    /// Puts a new point close beside a tetrahedron, beyond one of its faces that are in no facet.
+    fn split_beside(
+        &mut self,
+        t: u32,
+        cell: &Cell,
+        spots: &[Spot; 4],
+    ) -> Result<bool, NoMemory> {
+        self.site.clear();
+        let target = Target {
+            place: t,
+            freedom: Freedom::Anywhere,
+            square: shortest(spots) / 3,
+        };
+        let mut best = self.much_over(cell.sine, centroid(spots));
+        for k in 0..4 {
+            if cell.across[k].facet.is_none() {
+                let face = face_at(&cell.corners, k);
+                self.attempt_beside(&target, spots, &face, &mut best)?;
+            }
+        }
+        self.insert(&target, &best)
     }
 
     /// Puts a new point near to the circumcenter of a face in a facet.
@@ -260,18 +339,21 @@ impl Mover {
         if trials.is_spent(code) {
             return Ok(false);
         }
-        if self.split_apart(t, cell, shortest(&spots))? {
+        if self.split_apart(t, cell, &spots)? {
             return Ok(true);
         }
         trials.note(code)?;
         Ok(false)
     }
 
-    /// Puts a new point into a tetrahedron, or on one of its edges or faces on the boundary, where
-    /// this betters it much, and reports whether it does.
-    fn split_apart(&mut self, t: u32, cell: &Cell, square: u64) -> Result<bool, NoMemory> {
+    /// Puts a new point into the circumsphere of a tetrahedron, or on one of its edges or faces on
+    /// the boundary, where this betters it much, and reports whether it does.
+    fn split_apart(&mut self, t: u32, cell: &Cell, spots: &[Spot; 4]) -> Result<bool, NoMemory> {
+        let square = shortest(spots);
         self.fill.cells.clear();
-        if self.split_inside(t, cell, square)? {
+        if self.split_inside(t, cell, square)?
+            || self.is_mending && self.split_beside(t, cell, spots)?
+        {
             return Ok(true);
         }
         if !self.splits_boundary {
