@@ -31,6 +31,9 @@ pub trait Propose {
         halvings: u32,
     ) -> Result<Option<Points>, NoMemory>;
 
+    /// From now on points are replaced so that the least dihedral angles grow.
+    fn mend(&mut self);
+
     /// Whether a mesh is better than another one with other points behind the first `own`: than the
     /// best one of those that were compared, once there are such.
     fn is_better(

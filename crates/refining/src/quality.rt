@@ -7,9 +7,16 @@ use crate::propose::Propose;
 use complex_mesh::ComplexMesh;
 use geo_laws::Points;
 use point_proposals::{Aim, propose};
-use shape_improvement::{Grade, Trials, grade_of, improve};
+use shape_improvement::{Grade, SPARE, Trials, grade_of, improve};
 use std::alloc::Global;
 use tet_ports::NoMemory;
+use tet_shapes::{Ratio, squared_cosine};
+
+/// The dihedral angle in degrees below which tetrahedra are mended.
+const MENDED: u32 = 5;
+
+/// How many meshes in turn may be no better than the best one before mending ends.
+const PATIENCE: u32 = 2;
 
 /// Proposes points while a tetrahedron is over a bound and the share of those over the ratio falls.
 #[derive(Drop)]
@@ -17,8 +24,12 @@ pub struct Quality<'a> {
     shapes: &'a ShapeBounds,
     splits_boundary: bool,
     progress: Progress,
-    /// The grade of the best mesh, where one was compared.
+    /// The grade of the best mesh, where one was compared with the same aim.
     best: Option<Grade>,
+    /// Whether points are replaced for the least dihedral angles alone.
+    is_mending: bool,
+    /// How many meshes in turn were no better than the best one.
+    vain: u32,
 }
 
 impl<'a> Quality<'a> {
@@ -30,6 +41,8 @@ impl<'a> Quality<'a> {
             splits_boundary,
             progress: Progress::new(),
             best: None,
+            is_mending: false,
+            vain: 0,
         }
     }
 
@@ -60,6 +73,14 @@ impl<'a> Quality<'a> {
         aim.mosts(alloc, mesh.tetrahedra.len())
     }
 
+    /// The squared cosine of the least dihedral angle that is aimed at.
+    fn cosine(&self) -> Option<Ratio> {
+        match self.shapes.angle {
+            Some(angle) if self.is_mending => Some(squared_cosine(angle.min(MENDED))),
+            _ => self.shapes.cosine,
+        }
+    }
+
     /// What an improvement of a mesh is asked for.
     fn improvement<'b>(
         &self,
@@ -70,21 +91,30 @@ impl<'a> Quality<'a> {
         shape_improvement::Aim {
             mosts,
             ratio: self.shapes.ratio,
-            cosine: self.shapes.cosine,
+            cosine: self.cosine(),
             halvings,
             own,
             splits_boundary: self.splits_boundary,
-            is_mending: false,
+            is_mending: self.is_mending,
         }
     }
 
-    /// Whether a mesh has no more tetrahedra over the ratio than another one, or very few.
-    fn has_few_slim(&self, mesh: &ComplexMesh, than: &ComplexMesh) -> bool {
+    /// How many tetrahedra more may be over the ratio where so many angles are mended.
+    fn spare(&self, mended: usize) -> usize {
+        match usize::try_from(SPARE) {
+            Ok(each) if self.is_mending => mended.saturating_mul(each),
+            _ => 0,
+        }
+    }
+
+    /// Whether a mesh has at most `spare` tetrahedra over the ratio more than another one, or very
+    /// few.
+    fn has_few_slim(&self, mesh: &ComplexMesh, than: &ComplexMesh, spare: usize) -> bool {
         let Some(ratio) = self.shapes.ratio else {
             return true;
         };
         let few = mesh.tetrahedra.len() / 2048;
-        slim_in(mesh, ratio) <= slim_in(than, ratio).max(few)
+        slim_in(mesh, ratio) <= slim_in(than, ratio).saturating_add(spare).max(few)
     }
 
     /// The grade of a mesh, but for the tetrahedra over the ratio.
@@ -118,7 +148,7 @@ impl<'a> Propose for Quality<'a> {
         own: usize,
         halvings: u32,
     ) -> Result<Option<Points>, NoMemory> {
-        if self.shapes.cosine.is_none() {
+        if self.shapes.cosine.is_none() || self.is_mending && self.vain >= PATIENCE {
             return Ok(None);
         }
         let mosts = self.mosts(alloc, mesh)?;
@@ -134,6 +164,12 @@ impl<'a> Propose for Quality<'a> {
         )
     }
 
+    fn mend(&mut self) {
+        self.is_mending = true;
+        self.best = None;
+        self.vain = 0;
+    }
+
     fn is_better(
         &mut self,
         alloc: Global,
@@ -146,7 +182,9 @@ impl<'a> Propose for Quality<'a> {
             Some(best) => best,
             None => self.grade(alloc, than, own)?,
         };
-        let is_better = grade.is_better(&best) && self.has_few_slim(mesh, than);
+        let spare = self.spare(grade.mended(&best));
+        let is_better = grade.is_better(&best) && self.has_few_slim(mesh, than, spare);
+        self.vain = if is_better { 0 } else { self.vain.saturating_add(1) };
         self.best = Some(if is_better { grade } else { best });
         Ok(is_better)
     }

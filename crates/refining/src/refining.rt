@@ -430,6 +430,8 @@ fn best_of<P: Propose, W: Watch>(
     show(alloc, task, &first, watch)?;
     let Rounds { taken, rounds } = taken_last(alloc, task, first, proposer, watch)?;
     let taken = improved(alloc, task, taken, proposer, watch)?;
+    proposer.mend();
+    let taken = improved(alloc, task, taken, proposer, watch)?;
     Ok(Rounds { taken, rounds })
 }
 
