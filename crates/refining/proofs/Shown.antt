@@ -1,7 +1,7 @@
 -- Rounds that are shown in two steps.
 use Rattle.std.proofs.Common.{List, [], ◌++◌}
 use Rattle.std.proofs.lemmas.List.Elements.{All-append, All-cons, All-nil}
-use Rattle.std.proofs.Common.{◌∷◌, ◌≡◌}
+use Rattle.std.proofs.Common.{◌∷◌}
 use Rattle.command_words.specs.declared.options.Options.{Options}
 use Rattle.run_steps.specs.declared.mesh.Bound.{Bound}
 use Rattle.refining.specs.Rounds.{AreShown, IsRoundIn, IsRoundOf, frame_of}

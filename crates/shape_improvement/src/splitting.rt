@@ -159,9 +159,10 @@ impl Mover {
         face: &[u32; 3],
         best: &mut Best,
     ) -> Result<(), NoMemory> {
-        let Some([a, b, c]) = self.live.triangle(face) else {
+        let Some(corners) = self.live.triangle(face) else {
             return Ok(());
         };
+        let [a, b, c] = corners;
         let outward = c.from(a).cross(b.from(a));
         let (short, long) = (length_of(shortest(spots)), length_of(longest(spots)));
         for k in 0..BESIDE {
@@ -179,12 +180,7 @@ impl Mover {
     }
 
     /// Puts a new point close beside a tetrahedron, beyond one of its faces that are in no facet.
-    fn split_beside(
-        &mut self,
-        t: u32,
-        cell: &Cell,
-        spots: &[Spot; 4],
-    ) -> Result<bool, NoMemory> {
+    fn split_beside(&mut self, t: u32, cell: &Cell, spots: &[Spot; 4]) -> Result<bool, NoMemory> {
         self.site.clear();
         let target = Target {
             place: t,
@@ -325,7 +321,7 @@ impl Mover {
     }
 
     /// Puts a new point in where this betters a tetrahedron much, and reports whether it does.
-    /// Where this was tried in vain the tetrahedron is let alone.
+    /// Where `Trials` says that the tetrahedron is let alone nothing is tried.
     pub(crate) fn split(
         &mut self,
         t: u32,
