@@ -31,7 +31,7 @@ pub(crate) struct Region {
     pub(crate) cells: Vec<u32>,
     pub(crate) nearest: u64,
     pub(crate) nearest_by: u64,
-    /// Whether the nearest corner by the part is asked for.
+    /// Whether the nearest corner by the part is looked for; else `nearest_by` stays the greatest.
     pub(crate) asks_by: bool,
     marks: Vec<u32>,
     mark: u32,
@@ -75,7 +75,7 @@ impl Region {
     }
 
     /// Notes the distance to a corner, unless it is inside of a part that meets the part at less
-    /// than 60 degrees.
+    /// than 60 degrees. A corner that is no nearer than those before changes nothing.
     fn measure(&mut self, field: &Field, v: u32, square: u64, part: Option<Part>) {
         let least = if self.asks_by {
             self.nearest_by

@@ -34,8 +34,9 @@ pub trait Propose {
     /// From now on points are replaced so that the least dihedral angles grow.
     fn mend(&mut self);
 
-    /// Whether a mesh is better than another one with other points behind the first `own`: than the
-    /// best one of those that were compared, once there are such.
+    /// Whether a mesh is better than another one with other points behind the first `own`. From the
+    /// second call on, and from the second one after `mend`, the other one is the better one of the
+    /// call before.
     fn is_better(
         &mut self,
         alloc: Global,

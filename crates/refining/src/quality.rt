@@ -24,7 +24,7 @@ pub struct Quality<'a> {
     shapes: &'a ShapeBounds,
     splits_boundary: bool,
     progress: Progress,
-    /// The grade of the best mesh, where one was compared with the same aim.
+    /// The grade of the better mesh of the last comparison with this aim, if there was one.
     best: Option<Grade>,
     /// Whether points are replaced for the least dihedral angles alone.
     is_mending: bool,
@@ -184,7 +184,11 @@ impl<'a> Propose for Quality<'a> {
         };
         let spare = self.spare(grade.mended(&best));
         let is_better = grade.is_better(&best) && self.has_few_slim(mesh, than, spare);
-        self.vain = if is_better { 0 } else { self.vain.saturating_add(1) };
+        self.vain = if is_better {
+            0
+        } else {
+            self.vain.saturating_add(1)
+        };
         self.best = Some(if is_better { grade } else { best });
         Ok(is_better)
     }

@@ -43,7 +43,8 @@ pub(crate) struct Cavity {
     pub(crate) walls: Vec<Wall>,
     pub(crate) rims: Vec<Rim>,
     floors: Vec<Floor>,
-    /// A face, by its tetrahedron and the corner opposite, at which a place could not be joined.
+    /// The last face with which a place could not be joined: its tetrahedron, and the place there
+    /// of the corner opposite.
     failed: Option<(u32, usize)>,
 }
 
@@ -59,8 +60,8 @@ enum Noted {
 }
 
 /// Whether a place is on the inner side of a face of the boundary, and the squares of the sines of
-/// the tetrahedron between both are over `least`. In facets that the place lies in the three faces
-/// at the place may be left out.
+/// the tetrahedron between both are over `least`. Where the place lies in a facet, the angles
+/// between two of the three faces at the place are not looked at, since both may be in facets.
 fn is_joined(live: &Live, p: Spot, site: &Site, least: u64, wall: &Wall) -> bool {
     let Some(corners) = live.triangle(&wall.face) else {
         return false;
@@ -140,7 +141,7 @@ impl Cavity {
         Ok(false)
     }
 
-    /// Notes a face of the cavity, and reports whether it is of the boundary.
+    /// Notes a face of a tetrahedron of the cavity, and reports what it is.
     fn note(&mut self, live: &Live, site: &Site, wall: Wall) -> Result<Noted, NoMemory> {
         let Across { cell, facet } = wall.across;
         let is_marked = match cell {
@@ -165,8 +166,8 @@ impl Cavity {
         Ok(Noted::Wall)
     }
 
-    /// Notes the faces of a tetrahedron of the cavity, and reports whether the place can be joined
-    /// with each so that the square of a sine is over `least`.
+    /// Notes the faces of a tetrahedron of the cavity, and reports whether `is_joined` holds of the
+    /// place and each that is of the boundary.
     fn note_cell(
         &mut self,
         live: &Live,
@@ -196,7 +197,8 @@ impl Cavity {
         Ok(true)
     }
 
-    /// Notes the faces of all tetrahedra of the cavity.
+    /// Notes the faces of all tetrahedra of the cavity, up to one with which the place can't be
+    /// joined, and reports whether there is none.
     fn note_all(
         &mut self,
         live: &Live,
@@ -215,9 +217,9 @@ impl Cavity {
         Ok(true)
     }
 
-    /// Whether the face at which a place could not be joined last seems to be one of the boundary
-    /// of the cavity of another place too, by the two spheres there, and that place can't be joined
-    /// with it either. The cavity is not yet grown.
+    /// Whether the last face with which a place could not be joined seems to be of the boundary of
+    /// the cavity of another place too, by the two spheres there, and that place can't be joined
+    /// with it either. The cavity of that place need not be known.
     pub(crate) fn seems_to_fail(&self, live: &Live, p: Spot, site: &Site, least: u64) -> bool {
         let Some((t, k)) = self.failed else {
             return false;
@@ -288,9 +290,8 @@ impl Cavity {
         self.close(live, p, site, 0)
     }
 
-    /// Notes the boundary of the cavity of a place, and reports whether the place can be joined
-    /// with it, as far as it is known without the rims so that the least square of a sine is over
-    /// `least`.
+    /// Notes the boundary of the cavity of a place, and reports whether `is_joined` holds of the
+    /// place and each face there. What `sine` answers can still be no more than `least`.
     pub(crate) fn close(
         &mut self,
         live: &Live,

@@ -382,8 +382,8 @@ impl Mover {
     }
 
     /// Moves a point, or takes it out, and reports whether the worst angle of its star grew, and
-    /// that of the tetrahedron where the point is across one of its faces. Where the point was
-    /// tried in vain with the same star it is let alone.
+    /// that of the tetrahedron where the point is across one of its faces. Where `Trials` says that
+    /// the star is let alone nothing is tried.
     pub(crate) fn shift(
         &mut self,
         v: u32,

@@ -41,8 +41,8 @@ fn sine_unless(u: Spot, v: Spot, is_left_out: bool) -> u64 {
     if is_left_out { RIGHT } else { sine_of(u, v) }
 }
 
-/// Whether the square of the sine of the angle of two vectors of 15 bits is over this one, or the
-/// angle is left out.
+/// Whether the square of the sine of the angle of two vectors of 15 bits, as `sine_of` has it, is
+/// over `least`, or the angle is left out.
 fn is_over(u: Spot, v: Spot, least: u64, is_left_out: bool) -> bool {
     if is_left_out {
         return true;
@@ -53,8 +53,8 @@ fn is_over(u: Spot, v: Spot, least: u64, is_left_out: bool) -> bool {
     cosine.wrapping_mul(cosine) < most.wrapping_mul(lengths)
 }
 
-/// Whether the least square of the sine of a dihedral angle of a tetrahedron, as `least_sine` has
-/// it, is over this one.
+/// Whether the square of the sine of each dihedral angle of a tetrahedron is over `least`, those
+/// between two of the walls left out.
 pub(crate) fn has_sine_over(s: &[Spot; 4], walls: [bool; 4], least: u64) -> bool {
     let [p, q, r, t] = walls;
     let (d, a, b) = (normal_of(s, 3), normal_of(s, 0), normal_of(s, 1));

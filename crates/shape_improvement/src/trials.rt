@@ -4,7 +4,8 @@ use std::alloc::Global;
 use std::collections::HashMap;
 use tet_ports::NoMemory;
 
-/// After how many trials in vain a tetrahedron or a star is let alone, where few are asked for.
+/// After how many trials in vain a tetrahedron or a star is let alone, where few tetrahedra are
+/// asked for.
 const MOST: u8 = 2;
 
 /// How often tetrahedra and stars were tried in vain, each known by a hash of its corners, so that
@@ -47,8 +48,8 @@ impl Trials {
         }
     }
 
-    /// Sets after how many trials in vain one is let alone: once where more than one in 64 of all
-    /// tetrahedra is asked for.
+    /// Sets after how many trials in vain one is let alone: after one where more than one in 64 of
+    /// all tetrahedra is asked for, else after `MOST`.
     pub(crate) fn set_most(&mut self, asked: usize, all: usize) {
         self.most = if asked > all / 64 { 1 } else { MOST };
     }
