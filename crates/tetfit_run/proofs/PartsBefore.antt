@@ -9,7 +9,7 @@ use Rattle.run_steps.specs.declared.mesh.Bound.{Bound}
 use Rattle.run_steps.specs.declared.numbering.Numbering.{Numbering}
 use Rattle.tet_ports.specs.declared.NoMemory.{NoMemory}
 use Rattle.run_steps.specs.declared.input.Input.{Input}
-use Rattle.tetfit_run.specs.Hints.{first_facet, segment_line, IsHalvedAfter, IsHalvedPartOf, IsLineOf, TellsSegment}
+use Rattle.tetfit_run.specs.Hints.{first_facet, segment_lines, IsHalvedAfter, IsHalvedPartOf, IsLineOf, TellsSegment}
 
 -- it is a part of what the piece before it is a part of
 pub part_before : (limits : Limits) (options : Options) (input : Input) (count left less : ℕ) (p before whole : Piece) → left ≡ less + 1 → IsHalvedAfter limits options input (max p.a p.b - count) before
@@ -25,9 +25,9 @@ part_whole limits options input count left p e = subst (λ k. IsHalvedPartOf lim
 
 -- ---- what is told
 
--- the line of a segment
+-- the lines of a segment
 pub line_told : (limits : Limits) (options : Options) (input : Input) (by : Numbering) (whole : Piece) (bound : Bound) (r : Result (List ℕ) NoMemory)
-    → BoundTried limits options input (Ok bound) → IfOk r (λ line. line ≡ segment_line by whole (first_facet bound.complex whole)) → IfOk r (IsLineOf limits options input by whole)
+    → BoundTried limits options input (Ok bound) → IfOk r (λ line. line ≡ segment_lines input.nodes.decimals by whole (first_facet bound.complex whole)) → IfOk r (IsLineOf limits options input by whole)
 line_told limits options input by whole bound (Ok line) h is = record { bound = bound; on_grid = h; is = is }
 line_told limits options input by whole bound (Err e) h is = is
 

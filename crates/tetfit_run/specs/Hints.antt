@@ -127,13 +127,17 @@ segment_line by p facet =
     codes "tetfit: it lies on segment" ++ number_text by (min p.a p.b) ++ number_text by (max p.a p.b) ++ hinted_facet_text facet
     ++ codes "\n"
 
--- the line names the segment `whole`
+-- the line that names a segment, and that with the coordinates of its ends
+abbrev pub segment_lines : List DecimalPoint → Numbering → Piece → Option ℕ → List ℕ
+segment_lines points by p facet = segment_line by p facet ++ part_line points by None (SegmentPart p)
+
+-- the lines name the segment `whole`
 pub record IsLineOf (limits : Limits) (options : Options) (input : Input) (by : Numbering) (whole : Piece) (line : List ℕ) : Type 0 where
   pub bound : Bound
   pub on_grid : BoundTried limits options input (Ok bound)
-  pub is : line ≡ segment_line by whole (first_facet bound.complex whole)
+  pub is : line ≡ segment_lines input.nodes.decimals by whole (first_facet bound.complex whole)
 
--- the line names the segment of which the subsegment is a part
+-- the lines name the segment of which the subsegment is a part
 pub record TellsSegment (limits : Limits) (options : Options) (input : Input) (by : Numbering) (p : Piece) (line : List ℕ) : Type 0 where
   pub whole : Piece
   pub part : IsHalvedPartOf limits options input (length by.names) p.halvings p whole

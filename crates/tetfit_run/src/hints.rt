@@ -11,7 +11,7 @@ ghost use Rattle.tetfit_run.specs.Hints.{hinted_facet_text, first_facet, grid_hi
 ghost use Rattle.tetfit_run.specs.Hints.{grid_front, grid_help, grid_line, is_rounded, parts_help, IsGridOf};
 ghost use Rattle.tetfit_run.specs.Hints.{flat_line, flat_text, half_unit, moved_line, moved_text};
 ghost use Rattle.tetfit_run.specs.Hints.{rounded_line, rounded_text, rounding_text};
-ghost use Rattle.tetfit_run.specs.Hints.{segment_line, HasPoints, IsHint, IsHintBy, IsLineOf};
+ghost use Rattle.tetfit_run.specs.Hints.{segment_line, segment_lines, HasPoints, IsHint, IsHintBy, IsLineOf};
 ghost use Rattle.tetfit_run.specs.Hints.{IsMissing, TellsCrossing, TellsRounded, TellsSegment, TellsSegments};
 ghost use Rattle.tetfit_run.specs.Placed.{HasCrossing};
 ghost use Rattle.tetfit_run.specs.Trial.{AreInTriedRange};
@@ -69,7 +69,23 @@ fn segment_line(
     Ok(text)
 }
 
-/// The line that names a segment of the input, whose points are put on their grid again.
+/// That line, and the one with the coordinates of the segment's ends.
+fn segment_lines(
+    alloc: Global,
+    complex: &Complex,
+    points: &[DecimalPoint],
+    by: &Numbering,
+    piece: Piece,
+) -> Result<Bytes, NoMemory>
+    ensures { IfOk result (λ lines. lines
+        ≡ segment_lines points.now by.now piece (first_facet complex.now piece)) }
+{
+    let mut text = segment_line(alloc, complex, by, piece)?;
+    append_part(&mut text, points, by, &None, Part::Segment(piece))?;
+    Ok(text)
+}
+
+/// The lines that name a segment of the input, whose points are put on their grid again.
 fn whole_hint(alloc: Global, trial: &Trial, by: &Numbering, whole: Piece) -> Result<Bytes, NoMemory>
     requires { HasPoints trial.now.limits trial.now.options trial.now.input
         (length by.now.names) }
@@ -78,13 +94,16 @@ fn whole_hint(alloc: Global, trial: &Trial, by: &Numbering, whole: Piece) -> Res
 {
     let nodes = tried_nodes(alloc, trial.options, &trial.input.nodes)?;
     match trial.bind(alloc, nodes) {
-        Ok(bound) => segment_line(alloc, &bound.complex, by, whole),
+        Ok(bound) => {
+            let points = trial.input.nodes.decimals.as_slice();
+            segment_lines(alloc, &bound.complex, points, by, whole)
+        }
         Err(Status::NoMemory) => Err(NoMemory),
         Err(_) => unreachable!(),
     }
 }
 
-/// The line that names the segment on which a missing subsegment lies.
+/// The lines that name the segment on which a missing subsegment lies.
 fn segment_hint(
     alloc: Global,
     trial: &Trial,
@@ -185,7 +204,7 @@ fn append_grid(text: &mut Bytes, most: u32, grid: Grid) -> Result<(), NoMemory>
     text.append(b"\n")
 }
 
-/// The line that names the segment on which a missing subsegment lies, how many decimals and
+/// The lines that name the segment on which a missing subsegment lies, how many decimals and
 /// halvings the grid has, and that coordinates were rounded, where they were.
 fn rounded_segment_hint(
     alloc: Global,

@@ -116,6 +116,7 @@ make them cross, try fewer decimals by --decimals=M\n";
 const BEAM_TOLD: &[u8] = b"\
 tetfit: 1 splits used, segment 4 17 is missing\n\
 tetfit: it lies on segment 4 10 of facet 5\n\
+tetfit: points 4 (1 1 -14) 10 (1 1 14)\n\
 tetfit: allow more added points by -S\n";
 
 const OPEN_TOLD: &[u8] = b"\

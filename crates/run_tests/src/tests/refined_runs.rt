@@ -298,6 +298,7 @@ static STAGED: [Run<'static>; 3] = [
 const NEEDS_FINER_GRID: &[u8] = b"\
 tetfit: segment 1 2 needs a finer grid\n\
 tetfit: it lies on segment 1 2 of facet 1\n\
+tetfit: points 1 (0 0 0) 2 (1000000000 0 0)\n\
 tetfit: the grid has 0 decimals and 0 halvings\n\
 tetfit: move apart what is near the segment, or turn sharp corners wider\n";
 
