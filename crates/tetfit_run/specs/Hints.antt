@@ -10,6 +10,7 @@ use Rattle.geo_laws.specs.Complex.{Complex}
 use Rattle.geo_laws.specs.Delaunay.{point}
 use Rattle.geo_laws.specs.declared.complex.Facet.{Facet}
 use Rattle.geo_laws.specs.declared.complex.Piece.{Piece}
+use Rattle.geo_laws.specs.declared.tetrahedra.Tet.{Tet}
 use Rattle.grid_coords.specs.Choice.{is_over, most_decimals}
 use Rattle.grid_coords.specs.declared.grid.Grid.{Grid as ModelGrid}
 use Rattle.grid_coords.specs.declared.points.DecimalPoint.{DecimalPoint}
@@ -63,6 +64,12 @@ corners_text points by placed (SegmentPart p) = corner_text points by placed p.a
 -- the line of a triangle or a segment: its corners
 abbrev pub part_line : List DecimalPoint → Numbering → Option Placed → Part → List ℕ
 part_line points by placed part = codes "tetfit: points" ++ corners_text points by placed part ++ codes "\n"
+
+-- the line of the four corners of a facet that are in no plane
+abbrev pub four_line : List DecimalPoint → Numbering → Tet → List ℕ
+four_line points by t =
+    codes "tetfit: points" ++ (corner_text points by None t.a ++ corner_text points by None t.b)
+    ++ (corner_text points by None t.c ++ corner_text points by None t.d) ++ codes "\n"
 
 -- ---- the segment that a piece lies on
 
@@ -209,6 +216,10 @@ pub record TellsRounded (limits : Limits) (options : Options) (input : Input) (b
   pub of_model : IsGridOf limits options input grid
   pub is : lines ≡ line ++ grid_line options.halvings grid ++ rounding_text options input.nodes.decimals
 
+-- the line of four corners of a facet, and the line on rounded coordinates
+abbrev pub uneven_text : Options → List DecimalPoint → Numbering → Tet → List ℕ
+uneven_text options points by four = four_line points by four ++ rounding_text options points
+
 -- the lines of two parts, and the line on rounded coordinates
 abbrev pub parts_text : Options → List DecimalPoint → Numbering → Option Placed → Part → Part → List ℕ
 parts_text options points by placed one two =
@@ -248,7 +259,7 @@ TellsSegments options points by one two lines =
 -- `by`
 abbrev pub IsHintBy : Limits → Options → Input → Numbering → Status → List ℕ → Type 0
 IsHintBy limits options input by Flat lines = lines ≡ flat_text options input.nodes.decimals
-IsHintBy limits options input by (NotFlat facet four) lines = lines ≡ rounding_text options input.nodes.decimals
+IsHintBy limits options input by (NotFlat facet four) lines = lines ≡ uneven_text options input.nodes.decimals by four
 IsHintBy limits options input by (SegmentsCross one two) lines = TellsSegments options input.nodes.decimals by one two lines
 IsHintBy limits options input by (Crossing one two) lines = TellsCrossing limits options input by one two lines
 IsHintBy limits options input by (GridEnd piece) lines = TellsRounded limits options input by piece lines

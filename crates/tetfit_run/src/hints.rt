@@ -10,7 +10,7 @@ ghost use Rattle.run_steps.specs.Reading.{IsSound};
 ghost use Rattle.tetfit_run.specs.Hints.{hinted_facet_text, first_facet, grid_hint, parts_text};
 ghost use Rattle.tetfit_run.specs.Hints.{grid_front, grid_help, grid_line, is_rounded, parts_help, IsGridOf};
 ghost use Rattle.tetfit_run.specs.Hints.{flat_line, flat_text, half_unit, moved_line, moved_text};
-ghost use Rattle.tetfit_run.specs.Hints.{rounded_line, rounded_text, rounding_text};
+ghost use Rattle.tetfit_run.specs.Hints.{rounded_line, rounded_text, rounding_text, uneven_text};
 ghost use Rattle.tetfit_run.specs.Hints.{segment_line, segment_lines, HasPoints, IsHint, IsHintBy, IsLineOf};
 ghost use Rattle.tetfit_run.specs.Hints.{IsMissing, TellsCrossing, TellsRounded, TellsSegment, TellsSegments};
 ghost use Rattle.tetfit_run.specs.Placed.{HasCrossing};
@@ -24,11 +24,11 @@ use crate::fitting::Refused;
 use crate::grids::first_off;
 use crate::model::Model;
 use crate::placed::{Placed, placed_of};
-use crate::places::{append_name, append_part, off_grid_text};
+use crate::places::{append_four, append_name, append_part, off_grid_text};
 use crate::trial::Trial;
 use crate::wholes::whole_of;
 use command_words::Options;
-use geo_laws::{Complex, Piece};
+use geo_laws::{Complex, Piece, Tet};
 use grid_coords::{DecimalPoint, Grid, WholePoint, most_decimals};
 use mesh_check::append_number;
 use node_files::Limits;
@@ -263,17 +263,16 @@ pub(crate) fn moved_text(
     Ok(text)
 }
 
-/// The line that coordinates were rounded, where they were.
-fn rounding_hint(alloc: Global, trial: &Trial) -> Result<Bytes, NoMemory>
+/// The line of four corners of a facet that are in no plane, and that coordinates were rounded,
+/// where they were.
+fn uneven_hint(alloc: Global, trial: &Trial, by: &Numbering, four: Tet) -> Result<Bytes, NoMemory>
     ensures { IfOk result (λ lines. lines
-        ≡ rounding_text trial.now.options trial.now.input.nodes.decimals) }
+        ≡ uneven_text trial.now.options trial.now.input.nodes.decimals by.now four) }
 {
+    let points = trial.input.nodes.decimals.as_slice();
     let mut text = Bytes::new(alloc);
-    append_rounding(
-        &mut text,
-        trial.options,
-        trial.input.nodes.decimals.as_slice(),
-    )?;
+    append_four(&mut text, points, by, four)?;
+    append_rounding(&mut text, trial.options, points)?;
     Ok(text)
 }
 
@@ -394,7 +393,7 @@ fn hint_by(alloc: Global, trial: &Trial, by: &Numbering, status: &Status) -> Res
 {
     match status {
         Status::Flat => flat_hint(alloc, trial),
-        Status::NotFlat { facet: _, four: _ } => rounding_hint(alloc, trial),
+        Status::NotFlat { facet: _, four } => uneven_hint(alloc, trial, by, *four),
         Status::SegmentsCross { one, two } => segments_hint(alloc, trial, by, *one, *two),
         Status::Crossing { one, two } => crossing_hint(alloc, trial, by, *one, *two),
         Status::GridEnd { piece } => rounded_segment_hint(alloc, trial, by, *piece),
@@ -429,12 +428,13 @@ fn grid_hint(
 }
 
 /// The lines that follow the message on a refused model: the segment of the input on which a
-/// missing subsegment lies; the coordinates of the crossing
-/// parts, and whether two segments cross in the file; that points lie in one plane; or
-/// the place and the coordinates of the first point off the grid. Where points lie in one plane, a
-/// facet is not flat, parts cross or the grid is too coarse for a subsegment, and the file has more
-/// decimals than are tried, they end with both numbers. The segment is found by meshing again with
-/// fewer points added: each such run ends at the subsegment that the next point halves.
+/// missing subsegment lies, with its ends; the coordinates of the crossing parts, and whether two
+/// segments cross in the file; those of four corners of a facet that is not flat; that points lie
+/// in one plane; or the place and the coordinates of the first point off the grid. Where points
+/// lie in one plane, a facet is not flat, parts cross or the grid is too coarse for a subsegment,
+/// and the file has more decimals than are tried, they end with both numbers. The segment is found
+/// by meshing again with fewer points added: each such run ends at the subsegment that the next
+/// point halves.
 pub fn hint_of(
     alloc: Global,
     limits: Limits,

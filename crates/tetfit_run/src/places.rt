@@ -1,15 +1,16 @@
 //! Points of a model by their numbers and coordinates.
 
-ghost use Rattle.std.specs.Prelude.{◌≡◌, ◌++◌, [], Some, drop, slice_get, option_copied, OnOk, IfOk, IfSome};
+ghost use Rattle.std.specs.Prelude.{◌≡◌, ◌++◌, [], None, Some, drop, slice_get, option_copied, OnOk, IfOk, IfSome};
 ghost use Rattle.std.specs.Option.{option_map_or};
 ghost use Rattle.refining.specs.Rounds.{IsPrintable};
 ghost use Rattle.tetfit_run.specs.Apart.{file_point};
-ghost use Rattle.tetfit_run.specs.Hints.{added_text, at_line, at_text, corner_text, corners_text, front_of, front_text, has_text, number_text};
+ghost use Rattle.tetfit_run.specs.Hints.{added_text, at_line, at_text, corner_text, corners_text, four_line, front_of, front_text, has_text, number_text};
 ghost use Rattle.tetfit_run.specs.Hints.{help_of_grid, off_grid_lines, part_line, place_text, point_line, point_lines, refusal_line};
 
 use crate::coordinates::append_on_grid;
 use crate::model::Stated;
 use crate::placed::Placed;
+use geo_laws::Tet;
 use grid_coords::DecimalPoint;
 use mesh_check::append_number;
 use run_steps::{Numbering, number_by};
@@ -164,6 +165,36 @@ pub(crate) fn append_part(
 {
     text.append(b"tetfit: points")?;
     append_corners(text, points, by, placed, part)?;
+    text.append(b"\n")
+}
+
+/// Appends two corners that the file has.
+fn append_two(
+    text: &mut Bytes,
+    points: &[DecimalPoint],
+    by: &Numbering,
+    one: u32,
+    two: u32,
+) -> Result<(), NoMemory>
+    ensures { OnOk result (text.new ≡ text.old
+        ++ (corner_text points.now by.now None one ++ corner_text points.now by.now None two)) }
+{
+    append_corner(text, points, by, &None, one)?;
+    append_corner(text, points, by, &None, two)
+}
+
+/// Appends the line of four corners of a facet that are in no plane.
+pub(crate) fn append_four(
+    text: &mut Bytes,
+    points: &[DecimalPoint],
+    by: &Numbering,
+    four: Tet,
+) -> Result<(), NoMemory>
+    ensures { OnOk result (text.new ≡ text.old ++ four_line points.now by.now four) }
+{
+    text.append(b"tetfit: points")?;
+    append_two(text, points, by, four.a, four.b)?;
+    append_two(text, points, by, four.c, four.d)?;
     text.append(b"\n")
 }
 

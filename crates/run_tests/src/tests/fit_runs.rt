@@ -146,6 +146,7 @@ tetfit: each side of a facet is shared, at least in part\n";
 
 const UNEVEN_TOLD: &[u8] = b"\
 tetfit: facet 1 is not flat: points 1 2 3 4\n\
+tetfit: points 1 (0 0 0) 2 (4 0 0.000000004) 3 (4 4 0.000000008) 4 (0 4 0.000000004)\n\
 tetfit: coordinates were rounded to 8 decimals, of 9 that the file has\n\
 tetfit: cut the facet in triangles\n";
 
