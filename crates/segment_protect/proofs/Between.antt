@@ -1,18 +1,17 @@
 -- A point on a segment has each coordinate between those of the ends.
-use Rattle.std.proofs.Common.{◌≡◌, ◌≢◌, ◌⊎◌, inl, inr, ℤ, pos, ◌+ℤ◌, ◌-ℤ◌, ◌*ℤ◌, ◌<ℤ◌, ◌≤ℤ◌, Bool, true, false, true≢false, ◌&&◌, ◌||◌, List, [], ◌∷◌, refl, ap, sym, ◌∙◌, arith}
+use Rattle.std.proofs.Common.{◌≡◌, ◌≢◌, ℤ, pos, ◌+ℤ◌, ◌-ℤ◌, ◌*ℤ◌, ◌<ℤ◌, ◌≤ℤ◌, Bool, true, false, true≢false, ◌&&◌, ◌||◌, List, [], ◌∷◌, refl, ap, sym, ◌∙◌, arith}
 use Rattle.std.specs.Prelude.{int_le}
 use Rattle.std.proofs.lemmas.Int.{ints}
 use Rattle.exact_algebra.proofs.Ring.{num, var, ring_given, given, same, ◌⊕◌, ◌⊖◌, ◌⊗◌}
 use Rattle.exact_algebra.proofs.Signs.{by_sign}
 use Rattle.sign_predicates.specs.Point.{Point, from_to}
-use Rattle.sign_predicates.specs.Orientation.{cross}
 use Rattle.geo_laws.specs.Delaunay.{point}
-use Rattle.geo_laws.specs.Segment.{is_zero, is_zero_vector, along, is_on_segment}
-use Rattle.geo_laws.proofs.Members.{both_true}
-use Rattle.geo_laws.proofs.Sorting.{int_le_true}
+use Rattle.geo_laws.specs.Segment.{along, is_on_segment}
 use Rattle.segment_protect.specs.Spots.{is_between, is_near, IsSpotOf}
 use Rattle.segment_protect.specs.declared.spots.Spot.{Spot}
-use Rattle.segment_protect.proofs.Codes.{zero_test, long, in_proportion, negated}
+use Rattle.segment_protect.proofs.Codes.{long, in_proportion, negated, on_line}
+use Rattle.geo_laws.proofs.Members.{both_true}
+use Rattle.geo_laws.proofs.Sorting.{int_le_true}
 use Rattle.segment_protect.proofs.Halves.{int_le_test}
 
 -- how far along a point lies on a line, and its second coordinate from the first end on, are in one proportion
@@ -43,15 +42,12 @@ parts_of : (a b p : Point) → is_on_segment a b p ≡ true → AreParts a b p
 parts_of a b p e =
     let u = from_to a b in
     let v = from_to a p in
-    let q = both_true (is_zero_vector (cross u v) && int_le (pos 0) (along a b p)) (int_le (along a b p) (along a b b)) e in
-    let r = both_true (is_zero_vector (cross u v)) (int_le (pos 0) (along a b p)) q.0 in
-    let s = both_true (is_zero (cross u v).x && is_zero (cross u v).y) (is_zero (cross u v).z) r.0 in
-    let t = both_true (is_zero (cross u v).x) (is_zero (cross u v).y) s.0 in
+    let line = on_line a b p e in
     record {
-      y = part_y u.x u.y u.z v.x v.y v.z (zero_test _ t.0) (zero_test _ s.1);
-      z = part_z u.x u.y u.z v.x v.y v.z (zero_test _ t.0) (zero_test _ t.1);
-      low = int_le_true (pos 0) (along a b p) r.1;
-      high = int_le_true (along a b p) (along a b b) q.1;
+      y = part_y u.x u.y u.z v.x v.y v.z line.x line.z;
+      z = part_z u.x u.y u.z v.x v.y v.z line.x line.y;
+      low = line.low;
+      high = line.high;
     }
 
 up_between : (a b n : ℤ) → a ≤ℤ n → n ≤ℤ b → is_between a b n ≡ true
@@ -65,6 +61,35 @@ either false = refl
 down_between : (a b n : ℤ) → b ≤ℤ n → n ≤ℤ a → is_between a b n ≡ true
 unfolding is_between
 down_between a b n h k = (λ j. int_le a n && int_le n b || int_le_test b n h j && int_le_test n a k j) ∙ either (int_le a n && int_le n b)
+
+-- ---- by the order of the ends
+
+or_first : (x y : Bool) → (y ≡ true → x ≡ true) → x ≡ x || y
+or_first true y h = refl
+or_first false true h = h refl
+or_first false false h = refl
+
+or_second : (x y : Bool) → (x ≡ true → y ≡ true) → y ≡ x || y
+or_second true y h = h refl
+or_second false y h = refl
+
+inside : (a b n : ℤ) → a ≤ℤ b → (int_le b n && int_le n a) ≡ true → (int_le a n && int_le n b) ≡ true
+inside a b n h e =
+    let p = both_true (int_le b n) (int_le n a) e in
+    let over = int_le_true b n p.0 in
+    let under = int_le_true n a p.1 in
+    λ j. int_le_test a n (omega (arith, ints)) j && int_le_test n b (omega (arith, ints)) j
+
+pub between_rising : (a b n : ℤ) → int_le a b ≡ true → (int_le a n && int_le n b) ≡ is_between a b n
+unfolding is_between
+between_rising a b n e = or_first (int_le a n && int_le n b) (int_le b n && int_le n a) (inside a b n (int_le_true a b e))
+
+pub between_falling : (a b n : ℤ) → int_le a b ≡ false → (int_le b n && int_le n a) ≡ is_between a b n
+unfolding is_between
+between_falling a b n e = or_second (int_le a n && int_le n b) (int_le b n && int_le n a) (inside b a n (less e))
+  where
+    less : int_le a b ≡ false → b ≤ℤ a
+    less e = by_sign (b -ℤ a) (λ h. omega (arith, ints)) (λ h. omega (arith, ints)) (λ h. absurd (true≢false (sym (int_le_test a b (omega (arith, ints))) ∙ e)))
 
 -- a coordinate in proportion with a part of the whole lies between those of the ends
 part_between : (l t a b n : ℤ) → l *ℤ (n -ℤ a) ≡ t *ℤ (b -ℤ a) → pos 0 <ℤ l → pos 0 ≤ℤ t → t ≤ℤ l → is_between a b n ≡ true

@@ -1,17 +1,13 @@
 //! Finds the subsegments that are edges of the mesh, by one pass over its tetrahedra.
-ghost use Rattle.std.specs.Prelude.{◌≡◌, ◌≢◌, ◌^◌, ◌<◌, [], IsTrue, length, All, Contains};
-ghost use Rattle.std.specs.Prelude.{IfOk};
+ghost use Rattle.std.specs.Prelude.{◌≡◌, ◌≢◌, ◌^◌, ◌<◌, IsTrue, length, All, Contains};
 ghost use Rattle.geo_laws.specs.Delaunay.{numbers};
-ghost use Rattle.incidence.specs.Found.{with_pieces};
 ghost use Rattle.segment_protect.specs.Watch.{pieces_of, HasSidesOf, IsSeenOrSide};
 
+use crate::lesser_ends::{End, Ends};
 use crate::watch::Watched;
 use cavity_insert::{Living, has_corner};
-use geo_laws::{Piece, Pieces, Tet};
-use incidence::PieceSet;
+use geo_laws::{Piece, Tet};
 use point_locate::{Shape, shape_of};
-use std::alloc::Global;
-use tet_ports::NoMemory;
 
 /// Whether the subsegment is an edge of the tetrahedron.
 fn has_ends(row: Tet, piece: Piece) -> bool
@@ -48,50 +44,49 @@ fn see_piece(living: &Living, watched: &mut Vec<Watched>, row: Tet, k: usize)
     };
 }
 
-/// Notes that the subsegment between `a` and `b`, if there is one, is an edge of the mesh.
-fn see_side(
-    living: &Living,
-    places: &PieceSet,
-    watched: &mut Vec<Watched>,
-    row: Tet,
-    a: u32,
-    b: u32,
-)
+/// Notes that the subsegment with this greater end, if that is a corner of the tetrahedron, is an
+/// edge of the mesh.
+fn see_end(living: &Living, watched: &mut Vec<Watched>, row: Tet, end: End)
     requires row { HasSidesOf living.now.points row }
     requires few { length living.now.points < 2 ^ 32 }
     requires seen { All (IsSeenOrSide living.now.points) watched.old.items }
     ensures pieces { pieces_of watched.new.items ≡ pieces_of watched.old.items }
     ensures seen { All (IsSeenOrSide living.now.points) watched.new.items }
 {
-    let Some(k) = places.place_of(Piece { a, b, halvings: 0 }) else {
+    if !has_corner(row, end.other) {
         return;
-    };
-    see_piece(living, watched, row, k);
+    }
+    see_piece(living, watched, row, end.place as usize);
+}
+
+/// Notes the subsegments that are edges of the tetrahedron, of those with the lesser end `v`.
+fn see_corner(living: &Living, ends: &Ends, watched: &mut Vec<Watched>, row: Tet, v: u32)
+    requires row { HasSidesOf living.now.points row }
+    requires few { length living.now.points < 2 ^ 32 }
+    requires seen { All (IsSeenOrSide living.now.points) watched.old.items }
+    ensures pieces { pieces_of watched.new.items ≡ pieces_of watched.old.items }
+    ensures seen { All (IsSeenOrSide living.now.points) watched.new.items }
+{
+    for end in ends.of(v) {
+        see_end(living, watched, row, *end);
+    }
 }
 
 /// Notes the subsegments that are edges of the tetrahedron.
-fn see_row(living: &Living, places: &PieceSet, watched: &mut Vec<Watched>, row: Tet)
+fn see_row(living: &Living, ends: &Ends, watched: &mut Vec<Watched>, row: Tet)
     requires row { HasSidesOf living.now.points row }
     requires few { length living.now.points < 2 ^ 32 }
     requires seen { All (IsSeenOrSide living.now.points) watched.old.items }
     ensures pieces { pieces_of watched.new.items ≡ pieces_of watched.old.items }
     ensures seen { All (IsSeenOrSide living.now.points) watched.new.items }
 {
-    let sides = [
-        (row.a, row.b),
-        (row.a, row.c),
-        (row.a, row.d),
-        (row.b, row.c),
-        (row.b, row.d),
-        (row.c, row.d),
-    ];
-    for (a, b) in sides {
-        see_side(living, places, watched, row, a, b);
+    for v in [row.a, row.b, row.c, row.d] {
+        see_corner(living, ends, watched, row, v);
     }
 }
 
 /// Notes the subsegments that are edges of the tetrahedron in slot `i`, if the slot has one.
-fn see_slot(living: &Living, places: &PieceSet, watched: &mut Vec<Watched>, i: usize)
+fn see_slot(living: &Living, ends: &Ends, watched: &mut Vec<Watched>, i: usize)
     requires there { i < length living.now.slots }
     requires few { length living.now.points < 2 ^ 32 }
     requires seen { All (IsSeenOrSide living.now.points) watched.old.items }
@@ -105,28 +100,17 @@ fn see_slot(living: &Living, places: &PieceSet, watched: &mut Vec<Watched>, i: u
     let Shape::Row(row) = shape_of(arena.tet(s)) else {
         return;
     };
-    see_row(living, places, watched, row);
+    see_row(living, ends, watched, row);
 }
 
 /// Notes the subsegments that are edges of the mesh.
-pub(crate) fn see_sides(living: &Living, places: &PieceSet, watched: &mut Vec<Watched>)
+pub(crate) fn see_sides(living: &Living, ends: &Ends, watched: &mut Vec<Watched>)
     requires few { length living.now.points < 2 ^ 32 }
     requires seen { All (IsSeenOrSide living.now.points) watched.old.items }
     ensures pieces { pieces_of watched.new.items ≡ pieces_of watched.old.items }
     ensures seen { All (IsSeenOrSide living.now.points) watched.new.items }
 {
     for i in 0..living.arena().slots() {
-        see_slot(living, places, watched, i);
+        see_slot(living, ends, watched, i);
     }
-}
-
-/// The subsegments as a set, in which they are found by their ends.
-pub(crate) fn set_of(alloc: Global, pieces: &Pieces) -> Result<PieceSet, NoMemory>
-    ensures { IfOk result (λ set. set ≡ with_pieces [] pieces.now) }
-{
-    let mut set = PieceSet::new(alloc);
-    for i in 0..pieces.len() {
-        set.put(pieces.at(i))?;
-    }
-    Ok(set)
 }
