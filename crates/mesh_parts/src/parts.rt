@@ -265,7 +265,7 @@ impl<'a> Finder<'a> {
     }
 
     /// Notes two subsegments at a corner of the complex, and reports whether they meet at less than
-    /// 60 degrees.
+    /// 60 degrees. A pair is asked for in both orders.
     fn note_two(&mut self, e: u32, f: u32, v: u32) -> Result<bool, NoMemory> {
         let (Some(u), Some(w)) = (direction(self.mesh, e, v), direction(self.mesh, f, v)) else {
             return Ok(false);
@@ -277,7 +277,9 @@ impl<'a> Finder<'a> {
         if !is_within_60(u, w) {
             return Ok(false);
         }
-        self.note(part_of(self.segments, e), part_of(self.segments, f))?;
+        if e < f {
+            self.note(part_of(self.segments, e), part_of(self.segments, f))?;
+        }
         Ok(true)
     }
 
@@ -323,11 +325,11 @@ impl<'a> Finder<'a> {
         Ok(())
     }
 
-    /// Notes a subface with the other ones at a subsegment.
+    /// Notes a subface with the later ones at a subsegment.
     fn note_subface(&mut self, e: u32, s: u32) -> Result<(), NoMemory> {
         let stars = self.stars;
         for t in few(stars.beside.at(e)) {
-            if is_sharp_fold(self.mesh, e, s, *t) == Some(true) {
+            if s < *t && is_sharp_fold(self.mesh, e, s, *t) == Some(true) {
                 self.note(facet_of(self.mesh, s), facet_of(self.mesh, *t))?;
             }
         }
@@ -376,9 +378,10 @@ fn is_sharp_to(mesh: &Mesh, e: u32, s: u32, v: u32) -> Option<bool> {
     let corner = mesh.spot(v)?;
     let (p, q) = (mesh.spot(p)?.from(corner), mesh.spot(q)?.from(corner));
     let u = direction(mesh, e, v)?;
-    let is_off = p.cross(q).dot(u) != 0;
-    let is_near = is_within_60(u, p) || is_within_60(u, q) || is_within_60(u, p.plus(q));
-    Some(is_off && is_near)
+    if p.cross(q).dot(u) == 0 {
+        return Some(false);
+    }
+    Some(is_within_60(u, p) || is_within_60(u, q) || is_within_60(u, p.plus(q)))
 }
 
 /// The normal of a subface beside a side, by which two subfaces there are compared.

@@ -170,12 +170,19 @@ pub fn is_in_diametral(a: Spot, b: Spot, p: Spot) -> bool {
     a.from(p).dot(b.from(p)) < 0
 }
 
+/// The scalar product of two vectors of 20 bits.
+fn product(u: Spot, v: Spot) -> i64 {
+    let plane = u.x.wrapping_mul(v.x).wrapping_add(u.y.wrapping_mul(v.y));
+    plane.wrapping_add(u.z.wrapping_mul(v.z))
+}
+
 /// Whether the angle of two vectors is sharp: the square of its cosine is over `1 / under`.
 fn is_within(u: Spot, v: Spot, under: i128) -> bool {
     let u = u.over_power(u.bits_above(20));
     let v = v.over_power(v.bits_above(20));
-    let cosine = u.dot(v);
-    cosine > 0 && cosine.wrapping_mul(cosine).wrapping_mul(under) > u.dot(u).wrapping_mul(v.dot(v))
+    let cosine = product(u, v);
+    let lengths = times(product(u, u), product(v, v));
+    cosine > 0 && times(cosine, cosine).wrapping_mul(under) > lengths
 }
 
 /// Whether two vectors are at less than 60 degrees.
