@@ -29,4 +29,4 @@ mod splits;
 mod taken;
 mod walk;
 
-pub use proposal::{Aim, propose};
+pub use proposal::{Aim, FEW, propose};

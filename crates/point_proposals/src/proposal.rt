@@ -9,6 +9,9 @@ use std::alloc::Global;
 use tet_ports::NoMemory;
 use tet_shapes::{Ratio, VolumeBounds, mark_at};
 
+/// One in so many tetrahedra may be slim where these are few.
+pub const FEW: usize = 256;
+
 /// What a proposal of points is asked for.
 #[derive(Clone, Copy)]
 pub struct Aim<'a> {
@@ -24,6 +27,8 @@ pub struct Aim<'a> {
     pub own: usize,
     /// Whether points may be put on segments and in facets.
     pub splits_boundary: bool,
+    /// Whether slim tetrahedra are left where they are few and none is over its volume.
+    pub leaves_few: bool,
 }
 
 impl<'a> Aim<'a> {
@@ -73,11 +78,27 @@ fn split_all(alloc: Global, field: &Field, asked: &[Asked], aim: &Aim) -> Result
     refiner.taken.points(alloc)
 }
 
+/// Whether tetrahedra that are asked for are few among all, and none is over its volume.
+fn are_few(mesh: &Mesh, asked: &[Asked]) -> bool {
+    if asked.len() > mesh.cells.len() / FEW {
+        return false;
+    }
+    for asked in asked {
+        if asked.is_over {
+            return false;
+        }
+    }
+    true
+}
+
 /// Points that a mesh is to get so that no tetrahedron is over the ratio, or over its greatest
 /// volume.
 fn propose_slim(alloc: Global, mesh: &Mesh, aim: &Aim, ratio: Ratio) -> Result<Points, NoMemory> {
     let field = Field::new(alloc, mesh, aim.own)?;
     let asked = asked_of(alloc, &field, ratio, aim.own)?;
+    if aim.leaves_few && are_few(mesh, asked.as_slice()) {
+        return Ok(Points::new(alloc));
+    }
     split_all(alloc, &field, asked.as_slice(), aim)
 }
 

@@ -21,6 +21,8 @@ pub(crate) struct Asked {
     rank: u64,
     pub(crate) place: u32,
     pub(crate) lengths: Lengths,
+    /// Whether the volume is over the bound.
+    pub(crate) is_over: bool,
     /// Whether the volume is well over the bound.
     pub(crate) is_large: bool,
 }
@@ -154,6 +156,7 @@ impl<'a> Search<'a> {
                 shortest: shortest.free.min(bound),
                 floor: floor_at(self.floors, shortest.side),
             },
+            is_over,
             is_large: volume > most.saturating_add(most / 5),
         })
     }

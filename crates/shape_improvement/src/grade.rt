@@ -6,6 +6,7 @@ use geo_laws::{FacetTriangles, Points, TetList};
 use mesh_parts::{Beyond, Mesh, mesh_of};
 use std::alloc::Global;
 use tet_ports::NoMemory;
+use tet_shapes::Ratio;
 
 /// How many tetrahedra of a mesh are over the bounds, how many have a dihedral angle below the aim,
 /// and the least square of the sine of a dihedral angle. Angles between subfaces are left out.
@@ -73,6 +74,17 @@ impl Grade {
         if is_slim_exactly(bounds, &spots) {
             self.slim = self.slim.wrapping_add(1);
         }
+    }
+
+    /// Whether no dihedral angle is below an aim, given by the squared cosine.
+    pub fn reaches(&self, cosine: Option<Ratio>) -> bool {
+        self.worst >= aimed_sine(cosine)
+    }
+
+    /// Whether as many tetrahedra as in a mesh of the other grade have an angle below the aim, and
+    /// no more are over the bounds.
+    pub fn is_as_good(&self, than: &Grade) -> bool {
+        self.large <= than.large && self.slim <= than.slim && self.flat == than.flat
     }
 
     /// How many tetrahedra fewer have an angle below the aim than in a mesh of the other grade.

@@ -38,6 +38,15 @@ pub(crate) struct Mover {
     /// Whether tetrahedra in folds are bettered too, points are put in close beside a tetrahedron
     /// too, and each change may leave `SPARE` slim tetrahedra more.
     pub(crate) is_mending: bool,
+    /// Whether slim tetrahedra with no angle below the aim are bettered too.
+    pub(crate) sheds_slim: bool,
+    /// Whether a change is to leave fewer slim tetrahedra, and no angle below the aim or the least
+    /// one there, in place of larger angles.
+    pub(crate) is_for_ratio: bool,
+    /// Whether more places are tried where few tetrahedra are to be bettered.
+    pub(crate) tries_many: bool,
+    /// How many places are tried for a point at most.
+    pub(crate) most_tries: u32,
     /// How many tetrahedra may still be tried in vain.
     pub(crate) vain: usize,
     pub(crate) star: Star,
@@ -59,6 +68,10 @@ impl Mover {
             aim: aimed_sine(aim.cosine),
             splits_boundary: aim.splits_boundary,
             is_mending: aim.is_mending,
+            sheds_slim: aim.sheds_slim,
+            is_for_ratio: false,
+            tries_many: aim.tries_many,
+            most_tries: TRIES,
             vain: vain.saturating_add(FEW),
             star: Star::new(alloc),
             fill: Fill::new(alloc),
@@ -68,16 +81,30 @@ impl Mover {
         }
     }
 
+    /// How many places are tried for a point. More do not help where the ratio is bettered alone.
+    pub(crate) fn tries(&self) -> u32 {
+        if self.is_for_ratio {
+            TRIES
+        } else {
+            self.most_tries
+        }
+    }
+
     /// How many tetrahedra more may break the bounds after a change than before.
     pub(crate) fn spare(&self) -> Tally {
-        Tally {
-            slim: if self.is_mending { SPARE } else { 0 },
-            large: 0,
-        }
+        let slim = match (self.is_for_ratio, self.is_mending) {
+            (true, _) => -1,
+            (false, true) => SPARE,
+            (false, false) => 0,
+        };
+        Tally { slim, large: 0 }
     }
 
     /// The square of a sine that is to be passed so that it counts as better.
     fn passing(&self, old: u64) -> u64 {
+        if self.is_for_ratio {
+            return old.min(self.aim).saturating_sub(1);
+        }
         let more = old.saturating_add(old / 24).saturating_add(RIGHT / 100_000);
         if old < self.aim {
             more.min(self.aim)
@@ -255,7 +282,7 @@ impl Mover {
             sine: least,
             is_found: false,
         };
-        for k in 0..TRIES {
+        for k in 0..self.tries() {
             self.attempt(search, &mut best, freedom, k, allowed)?;
             if best.is_found && best.sine > self.aim && k >= TRIES / 2 {
                 break;
@@ -394,7 +421,8 @@ impl Mover {
         if !self.open_star(v)? {
             return Ok(false);
         }
-        let code = self.star_code(v) ^ u64::from(is_across);
+        let kind = (u64::from(self.is_for_ratio) << 1) | u64::from(is_across);
+        let code = self.star_code(v) ^ kind;
         if trials.is_spent(code) {
             return Ok(false);
         }

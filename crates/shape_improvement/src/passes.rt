@@ -3,6 +3,7 @@ use crate::entering::live_of;
 use crate::grade::has_flat;
 use crate::live::{Bounds, Cell, Live, corner_off, face_at};
 use crate::moving::Mover;
+use crate::search::{MANY, TRIES};
 use crate::trials::Trials;
 use geo_laws::{FacetTriangles, Points, TetList};
 use mesh_parts::{Field, grid_point, mesh_of};
@@ -15,6 +16,9 @@ const PASSES: u32 = 10;
 
 /// After how many trials a tetrahedron is let alone.
 const TRIALS: u8 = 2;
+
+/// How many tetrahedra that are asked for are few, so that more places are tried for each.
+const FEW: usize = 16;
 
 /// What an improvement is asked for.
 #[derive(Clone, Copy)]
@@ -35,6 +39,10 @@ pub struct Aim<'a> {
     /// Whether tetrahedra in folds are bettered too, points are put in close beside a tetrahedron
     /// too, and each change may leave `SPARE` slim tetrahedra more.
     pub is_mending: bool,
+    /// Whether slim tetrahedra with no angle below the aim are bettered too, since there are few.
+    pub sheds_slim: bool,
+    /// Whether more places are tried for a point where few tetrahedra are to be bettered.
+    pub tries_many: bool,
 }
 
 /// A tetrahedron that is to be bettered. Those with the least angles come first.
@@ -58,7 +66,7 @@ impl Mover {
     /// Whether a tetrahedron is to be bettered.
     fn is_asked(&self, field: &Field, cell: &Cell) -> bool {
         cell.is_live
-            && cell.sine < self.aim
+            && (cell.sine < self.aim || self.sheds_slim && cell.is_slim)
             && cell.failures < TRIALS
             && (self.is_mending || !field.parts.is_in_fold(&cell.corners))
     }
@@ -113,8 +121,9 @@ impl Mover {
         if cell.sine != asked.sine {
             return Ok(false);
         }
+        self.is_for_ratio = cell.sine >= self.aim;
         if self.shift_corners(&cell, trials)?
-            || self.shift_across(&cell, trials)?
+            || !self.is_for_ratio && self.shift_across(&cell, trials)?
             || splits && self.split(asked.place, &cell, trials)?
         {
             return Ok(true);
@@ -133,6 +142,11 @@ impl Mover {
     ) -> Result<usize, NoMemory> {
         let asked = self.asked(field)?;
         trials.set_most(asked.len(), self.live.cells.len());
+        self.most_tries = if self.tries_many && asked.len() <= FEW {
+            MANY
+        } else {
+            TRIES
+        };
         let mut count = 0_usize;
         for asked in asked.as_slice() {
             if self.vain == 0 {
@@ -168,7 +182,7 @@ pub fn improve(
     trials: &mut Trials,
 ) -> Result<Option<Points>, NoMemory> {
     let mesh = mesh_of(alloc, points, tetrahedra, triangles, aim.own)?;
-    if !has_flat(&mesh, aim) {
+    if !aim.sheds_slim && !has_flat(&mesh, aim) {
         return Ok(None);
     }
     let field = Field::new(alloc, &mesh, aim.own)?;

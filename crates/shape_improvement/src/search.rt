@@ -5,6 +5,9 @@ use mesh_parts::{Sphere, Spot, distance, times};
 /// How many places are tried for a point.
 pub(crate) const TRIES: u32 = 24;
 
+/// How many places are tried for a point where few tetrahedra are to be bettered.
+pub(crate) const MANY: u32 = 192;
+
 /// A place with the least square of a sine there.
 #[derive(Clone, Copy)]
 pub(crate) struct Best {
@@ -62,7 +65,7 @@ pub(crate) fn radius_of(sphere: Sphere) -> i64 {
 
 /// How far from the best place others are tried.
 fn reach_at(length: i64, k: u32) -> i64 {
-    let eighths = match k / 6 {
+    let eighths = match k % TRIES / 6 {
         0 => 3,
         1 => 2,
         _ => 1,

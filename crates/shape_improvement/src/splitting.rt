@@ -1,7 +1,7 @@
 //! Points that are put in where this betters a tetrahedron much.
 use crate::live::{Cell, Freedom, Live, Vertex, face_at, shortest};
 use crate::moving::Mover;
-use crate::search::{Best, TRIES, radius_of, with_length};
+use crate::search::{Best, radius_of, with_length};
 use crate::sine::RIGHT;
 use crate::trials::{Trials, tet_code};
 use geo_laws::{Side, side_of};
@@ -92,9 +92,10 @@ impl Mover {
     /// What is to be passed by a new point.
     fn much_over(&self, sine: u64, center: Spot) -> Best {
         let much = sine.saturating_mul(17) / 10;
+        let much = much.saturating_add(RIGHT / 10_000).min(self.aim);
         Best {
             spot: center,
-            sine: much.saturating_add(RIGHT / 10_000).min(self.aim),
+            sine: much.saturating_sub(u64::from(self.is_for_ratio)),
             is_found: false,
         }
     }
@@ -124,7 +125,7 @@ impl Mover {
         let center = sphere.center;
         let most = (radius_of(sphere) / 4).wrapping_mul(3);
         let mut best = self.much_over(sine, center);
-        for k in 0..TRIES {
+        for k in 0..self.tries() {
             let reach = if k == 0 { 0 } else { most };
             let wish = self.dice.near(center, reach);
             if let Some(p) = self.place_near(target.freedom, wish) {

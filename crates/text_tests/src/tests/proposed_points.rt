@@ -95,6 +95,7 @@ fn proposed(
         halvings: 1,
         own: 8,
         splits_boundary,
+        leaves_few: false,
     };
     propose(
         alloc,
