@@ -4,3 +4,4 @@ pub mod Counts
 pub mod Slim
 pub mod Volumes
 pub mod Thresholds
+pub mod Nearer

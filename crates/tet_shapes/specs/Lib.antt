@@ -7,3 +7,5 @@ pub mod Volume
 pub mod Bounds
 pub mod Angle
 pub mod Worst
+pub mod Nearest
+pub mod Narrow

@@ -38,8 +38,8 @@ fn square_of(m: Normal) -> u128
     dot(m, m).unsigned_abs()
 }
 
-/// Whether the angle of two normals is below the one with this squared cosine.
-fn is_below(m: Normal, n: Normal, bound: Ratio) -> bool
+/// Whether the angle of two normals, or vectors, is below the one with this squared cosine.
+pub(crate) fn is_below(m: Normal, n: Normal, bound: Ratio) -> bool
     ensures { result ≡ is_below bound m n }
 {
     let along = dot(m, n);

@@ -30,6 +30,18 @@ impl Model for Normal {
     ghost inverse = { λ v. record { x = v.x; y = v.y; z = v.z } };
 }
 
+/// A vector between two points as a longer one.
+#[inline]
+pub(crate) fn normal_of(v: Vector) -> Normal
+    ensures { result ≡ v }
+{
+    Normal {
+        x: i64::from(v.x),
+        y: i64::from(v.y),
+        z: i64::from(v.z),
+    }
+}
+
 /// The determinant of the rows `a b` and `c d`.
 #[inline]
 fn det_of_two(a: i32, b: i32, c: i32, d: i32) -> i64
@@ -91,7 +103,7 @@ pub(crate) fn combined(k: i64, x: i64, m: i64, y: i64, n: i64, z: i64) -> i128
     k as i128 * x as i128 - m as i128 * y as i128 + n as i128 * z as i128
 }
 
-/// Three products of a coordinate of a cross product and one of a vector.
+/// Three products of a coordinate of a cross product, or of a vector, and one of a vector.
 #[inline]
 fn sum_of_products(a: i64, x: i64, b: i64, y: i64, c: i64, z: i64) -> i128
     requires a_small { unsigned_abs a ≤ 2 ^ 61 }
@@ -114,6 +126,16 @@ pub(crate) fn det(u: Vector, v: Vector, w: Vector) -> i128
 {
     let n = cross(v, w);
     sum_of_products(n.x, u.x as i64, n.y, u.y as i64, n.z, u.z as i64)
+}
+
+/// The scalar product of two vectors.
+#[inline]
+pub(crate) fn scalar_product(u: Vector, v: Vector) -> i128
+    ensures { result ≡ dot u v }
+{
+    sum_of_products(
+        u.x as i64, v.x as i64, u.y as i64, v.y as i64, u.z as i64, v.z as i64,
+    )
 }
 
 /// Three products of coordinates of cross products.

@@ -4,13 +4,14 @@ ghost use Rattle.std.specs.Prelude.{◌≤◌, ◌^◌, unsigned_abs, All, IfSom
 ghost use Rattle.geo_laws.specs.Delaunay.{IsOn};
 ghost use Rattle.tet_shapes.specs.Shape.{IsFine};
 
-use geo_laws::{Points, Tet, TetList};
+use geo_laws::{Piece, Points, Segments, Tet, TetList};
+use grid_coords::Grid;
 use sign_predicates::{Corners, GridPoint};
 use std::alloc::Global;
 use tet_ports::{Items, NoMemory};
 use tet_shapes::{
     Ratio, VolumeBounds, count_flat, count_large, count_slim, greatest_ratio, is_large, is_slim,
-    is_slim_at, least_angle, squared_cosine,
+    is_slim_at, least_angle, narrowest, near_of, squared_cosine,
 };
 
 /// The greatest size of a coordinate, and the least coordinate.
@@ -256,6 +257,82 @@ fn row_of_the_least_angle(rt: HostRuntime) {
     for most in [13, 30, 60] {
         assert!(rt; least_at(rt.alloc(), most) == Some((12, 1)), "{most}");
     }
+}
+
+/// The place of the point that is nearest to the segment from (0, 0, 0) to (800, 0, 0), and a bound
+/// on its distance in units of eight parts.
+fn nearest_at(alloc: Global, others: &[[i32; 3]]) -> Option<(u32, u32)> {
+    let mut points = Points::with_capacity(alloc, others.len() + 2).ok()?;
+    points.push(at([0, 0, 0])?).ok()?;
+    points.push(at([800, 0, 0])?).ok()?;
+    for other in others {
+        points.push(at(*other)?).ok()?;
+    }
+    let segment = Piece {
+        a: 0,
+        b: 1,
+        halvings: 0,
+    };
+    let near = near_of(
+        Grid {
+            decimals: 2,
+            halvings: 3,
+        },
+        &points,
+        segment,
+    )?;
+    Some((near.point, near.units))
+}
+
+/// Beside the segment, behind an end, and the first of two that are as near.
+#[test]
+fn nearest_points(rt: HostRuntime) {
+    let alloc = rt.alloc();
+    assert!(rt; nearest_at(alloc, &[]).is_none());
+    assert!(rt; nearest_at(alloc, &[[400, 24, 0], [900, 0, 0]]) == Some((2, 3)));
+    assert!(rt; nearest_at(alloc, &[[400, 0, -25], [900, 0, 0]]) == Some((2, 4)));
+    assert!(rt; nearest_at(alloc, &[[400, 90, 0], [830, 0, 40]]) == Some((3, 7)));
+    assert!(rt; nearest_at(alloc, &[[10, 8, 0], [20, 0, 8]]) == Some((2, 1)));
+}
+
+/// The place of the segment that meets the one from (0, 0, 0) to (800, 0, 0) at the smallest angle,
+/// of those from its first end to others, and a number of degrees that the angle is below.
+fn narrowest_at(alloc: Global, others: &[[i32; 3]]) -> Option<(usize, u32)> {
+    let mut points = Points::with_capacity(alloc, others.len() + 2).ok()?;
+    points.push(at([0, 0, 0])?).ok()?;
+    points.push(at([800, 0, 0])?).ok()?;
+    let mut segments = Segments::new(alloc);
+    for other in others {
+        let b = u32::try_from(points.len()).ok()?;
+        points.push(at(*other)?).ok()?;
+        segments
+            .push(Piece {
+                a: 0,
+                b,
+                halvings: 0,
+            })
+            .ok()?;
+    }
+    let narrow = narrowest(
+        &points,
+        &segments,
+        Piece {
+            a: 1,
+            b: 0,
+            halvings: 0,
+        },
+    )?;
+    Some((narrow.place, narrow.degrees))
+}
+
+/// The tangents are 1, 0.1 and 0.105: of 45, 5.7 and 6.0 degrees.
+#[test]
+fn narrow_corners(rt: HostRuntime) {
+    let alloc = rt.alloc();
+    assert!(rt; narrowest_at(alloc, &[]).is_none());
+    assert!(rt; narrowest_at(alloc, &[[10, 10, 0], [-10, 0, 0]]).is_none());
+    assert!(rt; narrowest_at(alloc, &[[10, 10, 0], [10, 1, 0], [200, 21, 0]]) == Some((1, 6)));
+    assert!(rt; narrowest_at(alloc, &[[200, 0, 22], [-10, 1, 0], [10, 0, 1]]) == Some((2, 6)));
 }
 
 /// The greatest ratio, by the doublings of another one, and the place of its row.
