@@ -9,6 +9,7 @@ mod Keywords
 mod Appends
 mod Firsts
 mod OffGrid
+mod Alike
 mod Tries
 mod PartsBefore
 mod Halvings

@@ -7,7 +7,7 @@ use Rattle.grid_coords.specs.Choice.{grid_of}
 use Rattle.grid_coords.specs.declared.origin.WholePoint.{WholePoint}
 use Rattle.grid_coords.specs.declared.points.DecimalPoint.{DecimalPoint}
 use Rattle.node_files.specs.declared.limits.Limits.{Limits}
-use Rattle.node_files.specs.Settling.{measured_from, rounded_point, IsOffGrid}
+use Rattle.node_files.specs.Settling.{IsOffGrid}
 use Rattle.run_steps.specs.Meshing.{grid_options, IsSmall, IsUnbound, MeshedAnswer}
 use Rattle.run_steps.specs.Numbering.{numbering_of}
 use Rattle.run_steps.specs.declared.input.Input.{Input}
@@ -17,8 +17,9 @@ use Rattle.run_steps.specs.declared.outputs.Outputs.{Outputs}
 use Rattle.run_steps.specs.declared.status.LimitKind.TheVariants.{Grid}
 use Rattle.run_steps.specs.declared.status.Status.{Status}
 use Rattle.run_steps.specs.declared.status.Status.TheVariants.{Limit, GridEnd}
-use Rattle.tetfit_run.specs.Grids.{point_at, IsOffRounded, AreOffBetween}
-use Rattle.tetfit_run.specs.Measured.{points_by, tried, BoundTried}
+use Rattle.tetfit_run.specs.Grids.{ArePassedBetween, IsOffRounded, IsPassed}
+use Rattle.tetfit_run.specs.Measured.{tried, BoundTried}
+use Rattle.tetfit_run.proofs.Alike.{alike_refused, points_rounded}
 use Rattle.tetfit_run.proofs.Measured.{points_long}
 use Rattle.tetfit_run.specs.Trying.{answer_in, at_decimals, is_of_grid, AnswerAt, IsNumbered, IsRefusedByGrid, MadeAnswer}
 use Rattle.tetfit_run.specs.declared.trying.Unfitted.{Unfitted}
@@ -46,15 +47,6 @@ tried_within limits options input within = record {
   small = within.small;
 }
 
-rounded_twice : (w : WholePoint) (m : ℕ) (ps : List DecimalPoint) → map (rounded_point m) (map (measured_from w m) ps) ≡ map (point_at (Some w) m) ps
-rounded_twice w m [] = refl
-rounded_twice w m (p ∷ ps) = ap (λ (qs : List DecimalPoint). rounded_point m (measured_from w m p) ∷ qs) (rounded_twice w m ps)
-
--- the points as they are tried, rounded once more
-points_rounded : (o : Option WholePoint) (m : ℕ) (ps : List DecimalPoint) → map (rounded_point m) (points_by o (Some m) ps) ≡ map (point_at o m) ps
-points_rounded None m ps = refl
-points_rounded (Some w) m ps = rounded_twice w m ps
-
 -- where a point is off the grid, the grid refuses
 off_refused : (limits : Limits) (options : Options) (input : Input) (m : ℕ) → IsWithinLimits limits input → IsOffRounded limits.grid options.origin input.nodes.decimals m
     → IsRefusedByGrid limits options input m
@@ -76,13 +68,17 @@ by_order P m n below here above = at (cases_lt n m) (cases_lt m n)
 
 -- after a refusal at m the numbers of decimals behind the next one are refused
 pub refused_behind : (limits : Limits) (options : Options) (input : Input) (most m next : ℕ) (status : Status) → is_of_grid status ≡ true
-    → AnswerAt limits options input m (Err status) → AreOffBetween limits.grid options.origin input.nodes.decimals next m
+    → AnswerAt limits options input m (Err status) → ArePassedBetween limits.grid options.origin input.nodes.decimals next m
     → ((n : ℕ) → m < n → n ≤ most → IsRefusedByGrid limits options input n)
     → (n : ℕ) → next < n → n ≤ most → IsRefusedByGrid limits options input n
-refused_behind limits options input most m next status e refused off finer n less le =
+refused_behind limits options input most m next status e refused passed finer n less le =
     let within = tried_within limits (at_decimals m options) input (within_limits limits (at_decimals m options) (tried (at_decimals m options) input) status e refused) in
     let here : IsRefusedByGrid limits options input m = record { status = status; of_grid = e; answer = refused } in
-    by_order (IsRefusedByGrid limits options input) m n (λ lt. off_refused limits options input n within (off n less lt)) here (λ lt. finer n lt le)
+    by_order (IsRefusedByGrid limits options input) m n (λ lt. passed_refused within (passed n less lt)) here (λ lt. finer n lt le)
+  where
+    passed_refused : IsWithinLimits limits input → IsPassed limits.grid options.origin input.nodes.decimals m n → IsRefusedByGrid limits options input n
+    passed_refused within (inl off) = off_refused limits options input n within off
+    passed_refused within (inr alike) = record { status = status; of_grid = e; answer = alike_refused limits options input m n alike status refused }
 
 -- the numbers of the points of a refused try
 numbered : (limits : Limits) (options : Options) (input : Input) (bound : Bound) (status : Status) (by : Option Numbering) (numbers : Numbering)

@@ -1,10 +1,10 @@
 //! The numbers of decimals that are tried.
 
-ghost use Rattle.std.specs.Prelude.{◌≡◌, ◌≤◌, ◌<◌, find, map, option_copied, IfSome, IsTrue};
+ghost use Rattle.std.specs.Prelude.{◌≡◌, ◌≤◌, ◌<◌, true, find, map, option_copied, IfSome, IsTrue};
 ghost use Rattle.std.specs.List.{list_any};
 ghost use Rattle.grid_coords.specs.Choice.{is_over, most_decimals};
 ghost use Rattle.grid_coords.specs.Origins.{IsNear, IsSmallPoint};
-ghost use Rattle.tetfit_run.specs.Grids.{point_at, AreOffBetween, IsOffRounded};
+ghost use Rattle.tetfit_run.specs.Grids.{point_at, AreAlike, ArePassedBetween, IsOffRounded, IsPassed};
 ghost use Rattle.tetfit_run.specs.Hints.{finest_at, is_off_at};
 ghost use Rattle.tetfit_run.specs.Measured.{first_from, last_from, most_from, IsInPlaceOf};
 
@@ -60,8 +60,61 @@ pub(crate) fn last_tried(options: &Options, first: u32) -> u32
     }
 }
 
-/// The next number of decimals that is tried after a refusal at `decimals`: the greatest that is
-/// smaller and at which the points are on a grid of coordinates up to `wide` units, or 0.
+/// Whether two points have the same coordinates, and stand in the same line.
+#[tactic(auto, using(crate::proofs::Alike::same_points))]
+fn are_same(p: &DecimalPoint, q: &DecimalPoint) -> bool
+    ensures { result ≡ true → p.now ≡ q.now }
+{
+    p.x == q.x && p.y == q.y && p.z == q.z && p.line == q.line
+}
+
+/// Whether a point is the same at both numbers of decimals.
+fn is_alike(origin: Option<WholePoint>, decimals: u32, fewer: u32, p: &DecimalPoint) -> bool
+    requires near { IfSome origin (IsNear decimals) }
+    requires few { IfSome origin (IsNear fewer) }
+    ensures { result ≡ true → point_at origin fewer p.now ≡ point_at origin decimals p.now }
+{
+    let fine = point_at(origin, decimals, p);
+    let coarse = point_at(origin, fewer, p);
+    are_same(&coarse, &fine)
+}
+
+/// Whether each point is the same at both numbers of decimals.
+fn are_alike(origin: Option<WholePoint>, points: &[DecimalPoint], decimals: u32, fewer: u32) -> bool
+    requires near { IfSome origin (IsNear decimals) }
+    requires few { IfSome origin (IsNear fewer) }
+    ensures { result ≡ true → AreAlike origin points.now decimals fewer }
+{
+    for p in points {
+        if !is_alike(origin, decimals, fewer, p) {
+            return false;
+        }
+    }
+    true
+}
+
+/// Whether `fewer` decimals need no try after a refusal by the grid at `decimals`: a point is off
+/// each grid, or all points are the same.
+fn is_passed(
+    wide: u64,
+    origin: Option<WholePoint>,
+    points: &[DecimalPoint],
+    decimals: u32,
+    fewer: u32,
+) -> bool
+    requires near { IfSome origin (IsNear decimals) }
+    requires few { IfSome origin (IsNear fewer) }
+    ensures { IsTrue result → IsPassed wide origin points.now decimals fewer }
+{
+    if is_off_grid(wide, origin, points, fewer) {
+        return true;
+    }
+    are_alike(origin, points, decimals, fewer)
+}
+
+/// The next number of decimals that is tried after a refusal by the grid at `decimals`: the
+/// greatest that is smaller, at which the points are on a grid of coordinates up to `wide` units,
+/// and at which they are not all the same as at `decimals`, or 0.
 pub(crate) fn next_tried(
     origin: Option<WholePoint>,
     points: &[DecimalPoint],
@@ -71,10 +124,10 @@ pub(crate) fn next_tried(
     requires some { 0 < decimals }
     requires near { IfSome origin (IsNear decimals) }
     ensures less { result < decimals }
-    ensures off { AreOffBetween wide origin points.now result decimals }
+    ensures passed { ArePassedBetween wide origin points.now result decimals }
 {
     let mut next = decimals - 1;
-    while next > 0 && is_off_grid(wide, origin, points, next) {
+    while next > 0 && is_passed(wide, origin, points, decimals, next) {
         next -= 1;
     }
     next

@@ -1,5 +1,5 @@
 use Rattle.std.proofs.Common.{subst, arith}
-use Rattle.tetfit_run.specs.Grids.{AreOffBetween}
+use Rattle.tetfit_run.specs.Grids.{ArePassedBetween}
 use Rattle.tetfit_run.specs.Measured.{first_tried}
 use Rattle.tetfit_run.proofs.Measured.{first_among, first_is, last_is, next_among, of_near, tried_few}
 use Rattle.tetfit_run.proofs.Tries.{refused_behind}
@@ -23,11 +23,11 @@ loop-outputs-preserved c =
     let last = c.last_tried-last.result in
     let status = c.in-Err.end.status in
     let refused = c.goes_on.ensures.on c.if-not-goes_on.false in
-    let off = subst (λ ps. AreOffBetween c.args.limits.grid options.origin ps next.result m) c.as_slice-points.ensures next.ensures.off in
+    let passed = subst (λ ps. ArePassedBetween c.args.limits.grid options.origin ps next.result m) c.as_slice-points.ensures next.ensures.passed in
     let is = first_is options input c.as_slice-points.result.now first c.requires.origin c.as_slice-points.ensures c.first_tried-decimals.ensures.value in
     record {
       within = next_among options input last m next.result c.loop-outputs.invariant.within (last_is options input first last is c.last_tried-last.ensures) refused.0 next.ensures.less;
-      finer = refused_behind c.args.limits options input (first_tried options input) m next.result status refused.1 c.in-Err.ensures.answer off c.loop-outputs.invariant.finer;
+      finer = refused_behind c.args.limits options input (first_tried options input) m next.result status refused.1 c.in-Err.ensures.answer passed c.loop-outputs.invariant.finer;
     }
 
 pub next_tried-decimals-requires-clause-near : goal.next_tried-decimals-requires-clause-near
