@@ -33,6 +33,7 @@ abbrev is_crossing : Status → Bool
 is_crossing (Crossing one two) = true
 is_crossing status = false
 
+-- two parts of the complex cross, once points are added on its segments
 abbrev HasCross : MeshOptions → List Point → Complex → Type 0
 HasCross o ps c = (one : Part) × (two : Part) × IsMeshFault o ps c (faults.Crossing one two)
 
@@ -49,13 +50,11 @@ never o ps c fault e crossing h =
     let same = law_one_fault o ps c (faults.Crossing crossing.0 crossing.1) fault tt (decided fault e) crossing.2 (protection_cause o ps c fault h) in
     subst (IsProtectionFault o ps c) (sym same) h
 
-pub memory_alone : (o : MeshOptions) (ps : List Point) (c : Complex) (fault : MeshFault) → (one : Part) × (two : Part) × IsMeshFault o ps c (faults.Crossing one two) → IsProtectionFault o ps c fault
-    → fault ≡ faults.NoMemory
+pub memory_alone : (o : MeshOptions) (ps : List Point) (c : Complex) (fault : MeshFault) → HasCross o ps c → IsProtectionFault o ps c fault → fault ≡ faults.NoMemory
 memory_alone o ps c faults.NoMemory crossing h = refl
 memory_alone o ps c fault crossing h = absurd (never o ps c fault refl crossing h)
 
-fault_crosses : (o : MeshOptions) (ps : List Point) (c : Complex) (fault : MeshFault) (s : Status) → is_crossing s ≡ true → s ≡ status_of_fault fault → IsMeshFault o ps c fault
-    → (one : Part) × (two : Part) × IsMeshFault o ps c (faults.Crossing one two)
+fault_crosses : (o : MeshOptions) (ps : List Point) (c : Complex) (fault : MeshFault) (s : Status) → is_crossing s ≡ true → s ≡ status_of_fault fault → IsMeshFault o ps c fault → HasCross o ps c
 fault_crosses o ps c (faults.Crossing one two) s e is h = (one, two, h)
 fault_crosses o ps c fault s e is h = absurd (true≢false (sym e ∙ ap is_crossing is))
 

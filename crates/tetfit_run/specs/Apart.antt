@@ -45,21 +45,22 @@ pub record AreApart (points : List DecimalPoint) (by : Numbering) (one two : Pie
   pub on_grid : ArePlaced ends placed
   pub met : AreSegmentsMet one two placed
 
--- fewer decimals may help, whether they are apart in the file or not
+-- that fewer decimals may help, by whether the segments are apart in the file
 abbrev pub fewer_text : Bool → List ℕ
 fewer_text true = codes ", or try fewer decimals by --decimals=M"
 fewer_text false = codes ", or where the last digits alone make them cross, try fewer decimals by --decimals=M"
 
--- the same where coordinates are rounded to some decimals, of which there can be fewer
+-- that fewer decimals may help, where coordinates are rounded to some decimals and there can be fewer
 abbrev pub fewer_help : Option ℕ → Bool → List ℕ
 fewer_help None apart = []
 fewer_help (Some m) apart = if nat_lt 0 m then fewer_text apart else []
 
--- what would help: where they are apart in the file, and where they are not known to be
+-- the advice on two segments that cross once coordinates are rounded: apart in the file, and not known to be
 abbrev pub crossing_front : Bool → List ℕ
 crossing_front true = codes "tetfit: they do not cross in the file, rounding made them: move them apart"
 crossing_front false = codes "tetfit: give both segments the point at which they cross"
 
+-- that advice, and that fewer decimals may help
 abbrev pub crossing_help : Option ℕ → Bool → List ℕ
 crossing_help decimals apart = crossing_front apart ++ fewer_help decimals apart ++ codes "\n"
 

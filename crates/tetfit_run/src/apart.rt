@@ -94,7 +94,7 @@ pub(crate) fn are_apart(
     }
 }
 
-/// What would help two segments that cross once coordinates are rounded.
+/// The advice on two segments that cross once coordinates are rounded.
 fn crossing_front(apart: bool) -> &'static [u8]
     ensures { result.now ≡ crossing_front apart }
 {
@@ -126,7 +126,8 @@ fn fewer_help(decimals: Option<u32>, apart: bool) -> &'static [u8]
     }
 }
 
-/// Appends what would help two segments that cross once coordinates are rounded.
+/// Appends the advice on two segments that cross once coordinates are rounded, and that fewer
+/// decimals may help.
 pub(crate) fn append_crossing_help(
     text: &mut Bytes,
     decimals: Option<u32>,
