@@ -9,7 +9,7 @@ use Rattle.run_steps.specs.declared.mesh.Bound.{Bound}
 use Rattle.run_steps.specs.declared.numbering.Numbering.{Numbering}
 use Rattle.tet_ports.specs.declared.NoMemory.{NoMemory}
 use Rattle.run_steps.specs.declared.input.Input.{Input}
-use Rattle.tetfit_run.specs.Hints.{first_facet, segment_lines, IsHalvedAfter, IsHalvedPartOf, IsLineOf, TellsSegment}
+use Rattle.tetfit_run.specs.Hints.{IsHalvedAfter, IsHalvedPartOf, IsLineIn, IsLineOf, TellsSegment}
 
 -- it is a part of what the piece before it is a part of
 pub part_before : (limits : Limits) (options : Options) (input : Input) (count left less : ℕ) (p before whole : Piece) → left ≡ less + 1 → IsHalvedAfter limits options input (max p.a p.b - count) before
@@ -27,8 +27,8 @@ part_whole limits options input count left p e = subst (λ k. IsHalvedPartOf lim
 
 -- the lines of a segment
 pub line_told : (limits : Limits) (options : Options) (input : Input) (by : Numbering) (whole : Piece) (bound : Bound) (r : Result (List ℕ) NoMemory)
-    → BoundTried limits options input (Ok bound) → IfOk r (λ line. line ≡ segment_lines input.nodes.decimals by whole (first_facet bound.complex whole)) → IfOk r (IsLineOf limits options input by whole)
-line_told limits options input by whole bound (Ok line) h is = record { bound = bound; on_grid = h; is = is }
+    → BoundTried limits options input (Ok bound) → IfOk r (IsLineIn bound input.nodes.decimals by whole) → IfOk r (IsLineOf limits options input by whole)
+line_told limits options input by whole bound (Ok line) h is = (bound, h, is)
 line_told limits options input by whole bound (Err e) h is = is
 
 -- and of a piece

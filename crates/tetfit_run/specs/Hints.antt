@@ -1,13 +1,14 @@
 -- The lines that follow the message on a refused model.
-use Rattle.std.specs.Prelude.{◌≡◌, ℕ, zero, suc, ◌+◌, ◌-◌, min, max, nat_lt, nat_le, ◌==◌, ◌&&◌, Bool, true, false, length, position, find, map, unwrap_or, slice_index, List, [], ◌∷◌, ◌++◌, codes, Option, Some, None, Ok, Err, if◌then◌else◌}
+use Rattle.std.specs.Prelude.{◌≡◌, ℕ, zero, suc, ◌+◌, ◌-◌, min, max, nat_lt, nat_le, ◌==◌, ◌&&◌, Bool, true, false, length, position, find, map, unwrap_or, slice_index, List, [], ◌∷◌, ◌++◌, codes, Option, Some, None, Ok, Err, IfSome, if◌then◌else◌}
 use Rattle.std.specs.Fmt.{decimal}
 use Rattle.std.specs.List.{list_any}
 use Rattle.std.specs.Option.{option_map_or}
 use Rattle.simplex_meets.specs.declared.complex_parts.Part.{Part}
 use Rattle.simplex_meets.specs.declared.complex_parts.Part.TheVariants.{Triangle, Segment as SegmentPart}
 use Rattle.command_words.specs.declared.options.Options.{Options}
-use Rattle.geo_laws.specs.Complex.{Complex}
+use Rattle.geo_laws.specs.Complex.{Complex, corner_lists}
 use Rattle.geo_laws.specs.Delaunay.{point}
+use Rattle.geo_laws.specs.Segment.{segments}
 use Rattle.geo_laws.specs.declared.complex.Facet.{Facet}
 use Rattle.geo_laws.specs.declared.complex.Piece.{Piece}
 use Rattle.geo_laws.specs.declared.tetrahedra.Tet.{Tet}
@@ -26,6 +27,11 @@ use Rattle.run_steps.specs.declared.numbering.Numbering.{Numbering}
 use Rattle.run_steps.specs.declared.status.LimitKind.TheVariants.{Grid}
 use Rattle.run_steps.specs.declared.status.Status.{Status}
 use Rattle.run_steps.specs.declared.status.Status.TheVariants.{Limit, Flat, NotFlat, SegmentsCross, Crossing, GridEnd, BudgetEnd}
+use Rattle.tet_shapes.specs.Nearest.{IsNear}
+use Rattle.tet_shapes.specs.Narrow.{IsNarrow}
+use Rattle.tet_shapes.specs.declared.narrow.NarrowCorner.{NarrowCorner}
+use Rattle.tet_shapes.specs.declared.nearest.Near.{Near}
+use Rattle.tet_text.specs.Decimals.{lowest}
 use Rattle.tet_text.specs.Printing.{decimal_text, sign_text, size_text}
 use Rattle.tetfit_run.specs.Measured.{BoundTried, MeshedTried}
 use Rattle.tetfit_run.specs.Placed.{IsPlaced}
@@ -52,6 +58,12 @@ added_text (Some placed) n = if nat_lt n (length placed.points) then on_grid_tex
 abbrev pub place_text : List DecimalPoint → Numbering → Option Placed → ℕ → List ℕ
 place_text points by placed n = option_map_or at_text (file_point points by n) (added_text placed n)
 
+-- a number of units of the last of so many decimals
+unfoldable pub units_text : ℕ → ℕ → List ℕ
+units_text decimals units =
+    let low = lowest units decimals in
+    sign_text false ++ size_text low.0 low.1
+
 -- the number of a point and its coordinates
 abbrev pub corner_text : List DecimalPoint → Numbering → Option Placed → ℕ → List ℕ
 corner_text points by placed n = codes " " ++ decimal (number_by by n) ++ place_text points by placed n
@@ -70,6 +82,31 @@ abbrev pub four_line : List DecimalPoint → Numbering → Tet → List ℕ
 four_line points by t =
     codes "tetfit: points" ++ (corner_text points by None t.a ++ corner_text points by None t.b)
     ++ (corner_text points by None t.c ++ corner_text points by None t.d) ++ codes "\n"
+
+-- that a point is at most so many units away
+unfoldable pub away_text : ℕ → ℕ → List ℕ
+away_text decimals units = codes ", on the grid at most " ++ units_text decimals units ++ codes " away\n"
+
+-- the line on the point that is nearest to a segment
+abbrev pub near_line : List DecimalPoint → Numbering → ℕ → Near → List ℕ
+near_line points by decimals near =
+    codes "tetfit: nearest to it is point" ++ corner_text points by None near.point ++ away_text decimals near.units
+
+-- that line where there is such a point
+abbrev pub near_text : List DecimalPoint → Numbering → ℕ → Option Near → List ℕ
+near_text points by decimals None = []
+near_text points by decimals (Some near) = near_line points by decimals near
+
+-- the line on the corner in which a segment meets another at the smallest angle
+abbrev pub narrow_line : List DecimalPoint → Numbering → NarrowCorner → List ℕ
+narrow_line points by narrow =
+    codes "tetfit: in point" ++ number_text by narrow.corner.at ++ codes " it meets the segment to point"
+    ++ corner_text points by None narrow.corner.other ++ codes " at less than " ++ decimal narrow.degrees ++ codes " degrees\n"
+
+-- that line where there is such a corner
+abbrev pub narrow_text : List DecimalPoint → Numbering → Option NarrowCorner → List ℕ
+narrow_text points by None = []
+narrow_text points by (Some narrow) = narrow_line points by narrow
 
 -- ---- the segment that a piece lies on
 
@@ -138,11 +175,19 @@ segment_line by p facet =
 abbrev pub segment_lines : List DecimalPoint → Numbering → Piece → Option ℕ → List ℕ
 segment_lines points by p facet = segment_line by p facet ++ part_line points by None (SegmentPart p)
 
--- the lines name the segment `whole`
-pub record IsLineOf (limits : Limits) (options : Options) (input : Input) (by : Numbering) (whole : Piece) (line : List ℕ) : Type 0 where
-  pub bound : Bound
-  pub on_grid : BoundTried limits options input (Ok bound)
-  pub is : line ≡ segment_lines input.nodes.decimals by whole (first_facet bound.complex whole)
+-- the lines name a segment of points on their grid, the point that is nearest to it, and a segment that meets it at a small angle
+pub record IsLineIn (bound : Bound) (points : List DecimalPoint) (by : Numbering) (whole : Piece) (line : List ℕ) : Type 0 where
+  pub near : Option Near
+  pub nearest : IfSome near (IsNear bound.table.grid bound.table.points whole)
+  pub narrow : Option NarrowCorner
+  pub narrowest : IfSome narrow (IsNarrow bound.table.points (segments (corner_lists bound.complex.polygons)) whole)
+  pub is : line ≡ segment_lines points by whole (first_facet bound.complex whole)
+      ++ near_text points by bound.table.grid.decimals near ++ narrow_text points by narrow
+
+-- the lines name a segment of the input, and what is near it
+abbrev pub IsLineOf : Limits → Options → Input → Numbering → Piece → List ℕ → Type 0
+IsLineOf limits options input by whole line =
+    (bound : Bound) × BoundTried limits options input (Ok bound) × IsLineIn bound input.nodes.decimals by whole line
 
 -- the lines name the segment of which the subsegment is a part
 pub record TellsSegment (limits : Limits) (options : Options) (input : Input) (by : Numbering) (p : Piece) (line : List ℕ) : Type 0 where

@@ -11,7 +11,7 @@ ghost use Rattle.tetfit_run.specs.Hints.{hinted_facet_text, first_facet, grid_hi
 ghost use Rattle.tetfit_run.specs.Hints.{grid_front, grid_help, grid_line, is_rounded, parts_help, IsGridOf};
 ghost use Rattle.tetfit_run.specs.Hints.{flat_line, flat_text, half_unit, moved_line, moved_text};
 ghost use Rattle.tetfit_run.specs.Hints.{rounded_line, rounded_text, rounding_text, uneven_text};
-ghost use Rattle.tetfit_run.specs.Hints.{segment_line, segment_lines, HasPoints, IsHint, IsHintBy, IsLineOf};
+ghost use Rattle.tetfit_run.specs.Hints.{segment_line, segment_lines, HasPoints, IsHint, IsHintBy, IsLineIn, IsLineOf};
 ghost use Rattle.tetfit_run.specs.Hints.{IsMissing, TellsCrossing, TellsRounded, TellsSegment, TellsSegments};
 ghost use Rattle.tetfit_run.specs.Placed.{HasCrossing};
 ghost use Rattle.tetfit_run.specs.Trial.{AreInTriedRange};
@@ -24,7 +24,9 @@ use crate::fitting::Refused;
 use crate::grids::first_off;
 use crate::model::Model;
 use crate::placed::{Placed, placed_of};
-use crate::places::{append_four, append_name, append_part, off_grid_text};
+use crate::places::{
+    append_four, append_name, append_narrow, append_near, append_part, off_grid_text,
+};
 use crate::trial::Trial;
 use crate::wholes::whole_of;
 use command_words::Options;
@@ -32,10 +34,12 @@ use geo_laws::{Complex, Piece, Tet};
 use grid_coords::{DecimalPoint, Grid, WholePoint, most_decimals};
 use mesh_check::append_number;
 use node_files::Limits;
-use run_steps::{LimitKind, Numbering, Status};
+use plc_files::segments;
+use run_steps::{Bound, LimitKind, Numbering, Status};
 use simplex_meets::Part;
 use std::alloc::Global;
 use tet_ports::{Bytes, NoMemory};
+use tet_shapes::{narrowest, near_of};
 use tet_text::print_scaled;
 
 /// Appends the number of a facet, which counts from 1.
@@ -85,6 +89,26 @@ fn segment_lines(
     Ok(text)
 }
 
+/// The lines that name a segment of points on their grid, the point that is nearest to it, and the
+/// segment that meets it at the smallest angle, where one is below 30 degrees.
+fn bound_hint(
+    alloc: Global,
+    bound: &Bound,
+    points: &[DecimalPoint],
+    by: &Numbering,
+    whole: Piece,
+) -> Result<Bytes, NoMemory>
+    ensures { IfOk result (IsLineIn bound.now points.now by.now whole) }
+{
+    let near = near_of(bound.table.grid, &bound.table.points, whole);
+    let segments = segments(alloc, &bound.complex)?;
+    let narrow = narrowest(&bound.table.points, &segments, whole);
+    let mut text = segment_lines(alloc, &bound.complex, points, by, whole)?;
+    append_near(&mut text, points, by, bound.table.grid.decimals, near)?;
+    append_narrow(&mut text, points, by, narrow)?;
+    Ok(text)
+}
+
 /// The lines that name a segment of the input, whose points are put on their grid again.
 fn whole_hint(alloc: Global, trial: &Trial, by: &Numbering, whole: Piece) -> Result<Bytes, NoMemory>
     requires { HasPoints trial.now.limits trial.now.options trial.now.input
@@ -96,7 +120,7 @@ fn whole_hint(alloc: Global, trial: &Trial, by: &Numbering, whole: Piece) -> Res
     match trial.bind(alloc, nodes) {
         Ok(bound) => {
             let points = trial.input.nodes.decimals.as_slice();
-            segment_lines(alloc, &bound.complex, points, by, whole)
+            bound_hint(alloc, &bound, points, by, whole)
         }
         Err(Status::NoMemory) => Err(NoMemory),
         Err(_) => unreachable!(),

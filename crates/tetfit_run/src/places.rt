@@ -4,8 +4,8 @@ ghost use Rattle.std.specs.Prelude.{◌≡◌, ◌++◌, [], None, Some, drop, s
 ghost use Rattle.std.specs.Option.{option_map_or};
 ghost use Rattle.refining.specs.Rounds.{IsPrintable};
 ghost use Rattle.tetfit_run.specs.Apart.{file_point};
-ghost use Rattle.tetfit_run.specs.Hints.{added_text, at_line, at_text, corner_text, corners_text, four_line, front_of, front_text, has_text, number_text};
-ghost use Rattle.tetfit_run.specs.Hints.{help_of_grid, off_grid_lines, part_line, place_text, point_line, point_lines, refusal_line};
+ghost use Rattle.tetfit_run.specs.Hints.{added_text, at_line, away_text, at_text, corner_text, corners_text, four_line, front_of, front_text, has_text, number_text};
+ghost use Rattle.tetfit_run.specs.Hints.{help_of_grid, narrow_line, narrow_text, near_line, near_text, off_grid_lines, part_line, place_text, units_text, point_line, point_lines, refusal_line};
 
 use crate::coordinates::append_on_grid;
 use crate::model::Stated;
@@ -17,7 +17,8 @@ use run_steps::{Numbering, number_by};
 use simplex_meets::Part;
 use std::alloc::Global;
 use tet_ports::{Bytes, NoMemory};
-use tet_text::print_decimal;
+use tet_shapes::{NarrowCorner, Near};
+use tet_text::{lowest, print_decimal, print_scaled};
 
 /// Appends the number that the file gives a point; nothing of an added one.
 pub(crate) fn append_name(text: &mut Bytes, by: &Numbering, point: u32) -> Result<(), NoMemory>
@@ -166,6 +167,90 @@ pub(crate) fn append_part(
     text.append(b"tetfit: points")?;
     append_corners(text, points, by, placed, part)?;
     text.append(b"\n")
+}
+
+/// Appends a number of units of the last of `decimals` decimals.
+#[tactic(auto, unfolding(crate::specs::Hints::units_text))]
+fn append_units(text: &mut Bytes, decimals: u32, units: u32) -> Result<(), NoMemory>
+    ensures { OnOk result (text.new ≡ text.old ++ units_text decimals units) }
+{
+    let (size, scale) = lowest(u128::from(units), u64::from(decimals));
+    print_scaled(false, size, scale, text)
+}
+
+/// Appends that a point is at most so many units of the last of `decimals` decimals away, and ends
+/// the line.
+fn append_away(text: &mut Bytes, decimals: u32, units: u32) -> Result<(), NoMemory>
+    ensures { OnOk result (text.new ≡ text.old ++ away_text decimals units) }
+{
+    text.append(b", on the grid at most ")?;
+    append_units(text, decimals, units)?;
+    text.append(b" away\n")
+}
+
+/// Appends the line on the point that is nearest to a segment.
+fn append_near_line(
+    text: &mut Bytes,
+    points: &[DecimalPoint],
+    by: &Numbering,
+    decimals: u32,
+    near: Near,
+) -> Result<(), NoMemory>
+    ensures { OnOk result (text.new ≡ text.old ++ near_line points.now by.now decimals near) }
+{
+    text.append(b"tetfit: nearest to it is point")?;
+    append_corner(text, points, by, &None, near.point)?;
+    append_away(text, decimals, near.units)
+}
+
+/// Appends the line on the point that is nearest to a segment, where there is one.
+pub(crate) fn append_near(
+    text: &mut Bytes,
+    points: &[DecimalPoint],
+    by: &Numbering,
+    decimals: u32,
+    near: Option<Near>,
+) -> Result<(), NoMemory>
+    ensures { OnOk result (text.new ≡ text.old ++ near_text points.now by.now decimals near) }
+{
+    match near {
+        Some(near) => append_near_line(text, points, by, decimals, near),
+        None => Ok(()),
+    }
+}
+
+/// Appends the line on the corner in which a segment meets another at the smallest angle.
+fn append_narrow_line(
+    text: &mut Bytes,
+    points: &[DecimalPoint],
+    by: &Numbering,
+    narrow: NarrowCorner,
+) -> Result<(), NoMemory>
+    ensures { OnOk result (text.new ≡ text.old ++ narrow_line points.now by.now narrow) }
+{
+    text.append(b"tetfit: in point")?;
+    append_name(text, by, narrow.corner.at)?;
+    text.append(b" it meets the segment to point")?;
+    append_corner(text, points, by, &None, narrow.corner.other)?;
+    text.append(b" at less than ")?;
+    append_number(text, narrow.degrees as usize)?;
+    text.append(b" degrees\n")
+}
+
+/// Appends the line on the corner in which a segment meets another at the smallest angle, where
+/// there is one.
+pub(crate) fn append_narrow(
+    text: &mut Bytes,
+    points: &[DecimalPoint],
+    by: &Numbering,
+    narrow: Option<NarrowCorner>,
+) -> Result<(), NoMemory>
+    ensures { OnOk result (text.new ≡ text.old ++ narrow_text points.now by.now narrow) }
+{
+    match narrow {
+        Some(narrow) => append_narrow_line(text, points, by, narrow),
+        None => Ok(()),
+    }
 }
 
 /// Appends two corners that the file has.

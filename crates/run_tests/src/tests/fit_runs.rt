@@ -117,6 +117,7 @@ const BEAM_TOLD: &[u8] = b"\
 tetfit: 1 splits used, segment 4 17 is missing\n\
 tetfit: it lies on segment 4 10 of facet 5\n\
 tetfit: points 4 (1 1 -14) 10 (1 1 14)\n\
+tetfit: nearest to it is point 13 (0.9123457 0.5 0), on the grid at most 0.507626 away\n\
 tetfit: allow more added points by -S\n";
 
 const OPEN_TOLD: &[u8] = b"\

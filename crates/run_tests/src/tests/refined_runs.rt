@@ -299,6 +299,9 @@ const NEEDS_FINER_GRID: &[u8] = b"\
 tetfit: segment 1 2 needs a finer grid\n\
 tetfit: it lies on segment 1 2 of facet 1\n\
 tetfit: points 1 (0 0 0) 2 (1000000000 0 0)\n\
+tetfit: nearest to it is point 4 (500000000 -1000 0), on the grid at most 1000 away\n\
+tetfit: in point 2 it meets the segment to point 3 (500000000 200000000 0) \
+at less than 22 degrees\n\
 tetfit: the grid has 0 decimals and 0 halvings\n\
 tetfit: move apart what is near the segment, or turn sharp corners wider\n";
 
