@@ -4,7 +4,8 @@ import subprocess
 import sys
 
 SOURCE_WIDTH, SPEC_WIDTH, FUNCTION_LINES = 100, 140, 40
-IMPORT = re.compile(r"\s*(pub )?(ghost )?use ")
+# What rt fmt keeps in one line: imports, and attributes that name lemmas.
+IMPORT = re.compile(r"\s*((pub )?(ghost )?use |#\[tactic\()")
 FUNCTION = re.compile(r"( *)(pub(\([a-z]+\))? )?(const )?fn ")
 
 
@@ -18,7 +19,7 @@ def lines_of(file):
 
 
 def wide(names, width):
-    """The lines over a width, in characters. An import is as long as the names that it brings in."""
+    """The lines over a width, in characters. An import is as long as the names that it brings in, and an attribute as the lemmas that it names."""
     for file in names:
         for number, line in enumerate(lines_of(file), 1):
             if len(line) > width and not IMPORT.match(line):
