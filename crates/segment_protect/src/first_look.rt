@@ -3,10 +3,10 @@ ghost use Rattle.std.specs.Prelude.{◌≡◌, ◌≢◌, ◌^◌, ◌<◌, IsTr
 ghost use Rattle.geo_laws.specs.Delaunay.{numbers};
 ghost use Rattle.segment_protect.specs.Watch.{pieces_of, HasSidesOf, IsSeenOrSide};
 
-use crate::lesser_ends::{End, Ends};
+use crate::lesser_ends::Ends;
 use crate::watch::Watched;
 use cavity_insert::{Living, has_corner};
-use geo_laws::{Piece, Tet};
+use geo_laws::{Piece, Side, Tet, side_of};
 use point_locate::{Shape, shape_of};
 
 /// Whether the subsegment is an edge of the tetrahedron.
@@ -44,32 +44,31 @@ fn see_piece(living: &Living, watched: &mut Vec<Watched>, row: Tet, k: usize)
     };
 }
 
-/// Notes that the subsegment with this greater end, if that is a corner of the tetrahedron, is an
-/// edge of the mesh.
-fn see_end(living: &Living, watched: &mut Vec<Watched>, row: Tet, end: End)
+/// Notes that the subsegment between two corners of the tetrahedron, if there is one, is an edge
+/// of the mesh.
+fn see_side(living: &Living, ends: &Ends, watched: &mut Vec<Watched>, row: Tet, side: Side)
     requires row { HasSidesOf living.now.points row }
     requires few { length living.now.points < 2 ^ 32 }
     requires seen { All (IsSeenOrSide living.now.points) watched.old.items }
     ensures pieces { pieces_of watched.new.items ≡ pieces_of watched.old.items }
     ensures seen { All (IsSeenOrSide living.now.points) watched.new.items }
 {
-    if !has_corner(row, end.other) {
+    let Some(k) = ends.place_of(side.a, side.b) else {
         return;
-    }
-    see_piece(living, watched, row, end.place as usize);
+    };
+    see_piece(living, watched, row, k);
 }
 
-/// Notes the subsegments that are edges of the tetrahedron, of those with the lesser end `v`.
-fn see_corner(living: &Living, ends: &Ends, watched: &mut Vec<Watched>, row: Tet, v: u32)
-    requires row { HasSidesOf living.now.points row }
-    requires few { length living.now.points < 2 ^ 32 }
-    requires seen { All (IsSeenOrSide living.now.points) watched.old.items }
-    ensures pieces { pieces_of watched.new.items ≡ pieces_of watched.old.items }
-    ensures seen { All (IsSeenOrSide living.now.points) watched.new.items }
-{
-    for end in ends.of(v) {
-        see_end(living, watched, row, *end);
-    }
+/// The edges of a tetrahedron.
+fn edges_of(row: Tet) -> [Side; 6] {
+    [
+        side_of(row.a, row.b),
+        side_of(row.a, row.c),
+        side_of(row.a, row.d),
+        side_of(row.b, row.c),
+        side_of(row.b, row.d),
+        side_of(row.c, row.d),
+    ]
 }
 
 /// Notes the subsegments that are edges of the tetrahedron.
@@ -80,8 +79,8 @@ fn see_row(living: &Living, ends: &Ends, watched: &mut Vec<Watched>, row: Tet)
     ensures pieces { pieces_of watched.new.items ≡ pieces_of watched.old.items }
     ensures seen { All (IsSeenOrSide living.now.points) watched.new.items }
 {
-    for v in [row.a, row.b, row.c, row.d] {
-        see_corner(living, ends, watched, row, v);
+    for side in edges_of(row) {
+        see_side(living, ends, watched, row, side);
     }
 }
 

@@ -1,7 +1,0 @@
-use Rattle.std.proofs.Common.{◌≡◌}
-use Rattle.std.specs.Prelude.{All}
-use Rattle.segment_protect.specs.Watch.{pieces_of, IsSeenOrSide}
-use Rattle.segment_protect.proofs.first_look.see_corner.Given as goal
-
-abbrev pub invariant-loop-end : goal.invariant-loop-end
-invariant-loop-end l = (pieces_of l.watched.items ≡ pieces_of l.fn.watched.items) × All (IsSeenOrSide l.living.points) l.watched.items
