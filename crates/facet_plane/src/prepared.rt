@@ -1,6 +1,6 @@
 //! The region of one facet, prepared for many points: a point is located in it without a test of
 //! all sides.
-ghost use Rattle.std.specs.Prelude.{◌≡◌, ◌<◌, ◌≤◌, ◌&&◌, All, IfOk, OnOk, Some, length, nat_eq};
+ghost use Rattle.std.specs.Prelude.{◌≡◌, ◌<◌, ◌≤◌, ◌&&◌, All, IfOk, Some, false, length, nat_eq};
 ghost use Rattle.std.specs.List.{list_any};
 ghost use lib.Pointwise.{pointwise};
 ghost use Rattle.geo_laws.specs.Complex.{flat_facet, HasCornersOf};
@@ -9,7 +9,7 @@ ghost use Rattle.facet_plane.specs.Axes.{axis_is};
 ghost use Rattle.facet_plane.specs.Blocks.{AreBlocks};
 ghost use Rattle.facet_plane.specs.Corners.{lists_between};
 ghost use Rattle.facet_plane.specs.Outline.{IsBlocked};
-ghost use Rattle.facet_plane.specs.Prepared.{shape, shape_meets, shape_round, passing_places};
+ghost use Rattle.facet_plane.specs.Prepared.{shape, shape_meets, shape_round, outlines_meet, places_round};
 ghost use Rattle.facet_plane.specs.Prepared.{HoldsOutline, AreOutlinesOf, AreBlocked, AreHoles};
 ghost use Rattle.facet_plane.specs.Prepared.{prepared_holds, IsPreparedOf};
 
@@ -118,31 +118,13 @@ impl Outlines {
         Ok(Outlines { axis, each, blocks })
     }
 
-    /// Whether `x` is on a side of a polygon with three or more corners, or over a side of any.
-    fn meet(&self, reach: Reach, x: Spot) -> bool
+    /// Whether `x` is on a side of a polygon with three or more corners, or over a side of any; and
+    /// where it is not, the places of the polygons with three or more corners that are round it.
+    fn locate(&self, reach: Reach, x: Spot, places: &mut Vec<usize>) -> Result<bool, NoMemory>
         requires { AreBlocked self.now }
-        ensures { result ≡ list_any (λ o. shape_meets reach (axis_is self.now.axis) x (shape o))
-            self.now.each }
-    {
-        let mut q = 0;
-        while q < self.each.len() {
-            let block = self.blocks.at(q);
-            if is_apart(self.axis, block.extent, x) {
-                q = block.past;
-            } else if is_met(self.each.get(q), reach, self.axis, x) {
-                return true;
-            } else {
-                q += 1;
-            }
-        }
-        false
-    }
-
-    /// The places of the polygons with three or more corners that are round `x`.
-    fn put_round(&self, x: Spot, places: &mut Vec<usize>) -> Result<(), NoMemory>
-        requires { AreBlocked self.now }
-        ensures { OnOk result (places.new.items ≡ passing_places
-            (λ o. shape_round (axis_is self.now.axis) x (shape o)) 0 self.now.each) }
+        ensures met { IfOk result (λ met. met ≡ outlines_meet reach self.now x) }
+        ensures round { IfOk result (λ met. met ≡ false
+            → places.new.items ≡ places_round self.now x) }
     {
         places.clear();
         let mut q = 0;
@@ -151,13 +133,17 @@ impl Outlines {
             if is_apart(self.axis, block.extent, x) {
                 q = block.past;
             } else {
-                if is_round(self.each.get(q), self.axis, x) {
+                let outline = self.each.get(q);
+                if is_met(outline, reach, self.axis, x) {
+                    return Ok(true);
+                }
+                if is_round(outline, self.axis, x) {
                     places.push(q)?;
                 }
                 q += 1;
             }
         }
-        Ok(())
+        Ok(false)
     }
 
     /// For each hole point that is not over a side, the places of the polygons round it.
@@ -168,9 +154,9 @@ impl Outlines {
         let mut holes = Items::new(alloc);
         for i in 0..facet.holes.len() {
             let hole = Spot::of(facet.holes.at(i));
-            if !self.meet(Reach::Over, hole) {
-                let mut places = Vec::new(alloc);
-                self.put_round(hole, &mut places)?;
+            let mut places = Vec::new(alloc);
+            let over = self.locate(Reach::Over, hole, &mut places)?;
+            if !over {
                 holes.push(Places::from(places))?;
             }
         }
@@ -219,10 +205,9 @@ impl Prepared {
         if !self.normal.is_right(toward(self.from, x)) {
             return Ok(false);
         }
-        if self.outlines.meet(Reach::On, x) {
+        if self.outlines.locate(Reach::On, x, places)? {
             return Ok(true);
         }
-        self.outlines.put_round(x, places)?;
         Ok(!places.is_empty() && !is_listed(&self.holes, places.as_slice()))
     }
 }
