@@ -11,6 +11,7 @@ mod field;
 mod mesh;
 mod parts;
 mod plane;
+mod sharp;
 mod sphere;
 mod spot;
 mod stars;
@@ -19,8 +20,9 @@ mod table;
 pub use building::{mark, mesh_of};
 pub use field::Field;
 pub use mesh::{Beyond, Cell, Link, Mesh, Subface, centroid, opposite};
-pub use parts::{Part, Parts, SharpEnds, facet_of};
+pub use parts::{Part, Parts, facet_of};
 pub use plane::{Plane, Rung, Sixty};
+pub use sharp::SharpEnds;
 pub use sphere::{Sphere, center_in_plane, center_of, circumsphere, equator};
 pub use spot::{
     Spot, cube_root, distance, floored, grid_point, is_in_diametral, rounded, spot_of, times,

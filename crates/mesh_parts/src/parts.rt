@@ -1,14 +1,10 @@
-//! The segments and facets on which points were put, and those that meet at less than 60 degrees.
+//! The segments and facets on which points were put.
 use crate::mesh::Mesh;
-use crate::spot::{Spot, is_within_60, is_within_75};
 use crate::stars::Stars;
 use crate::table::{Entry, Table};
 use geo_laws::{Face, Side};
 use std::alloc::Global;
 use tet_ports::NoMemory;
-
-/// The most subsegments at a point, and subfaces at a subsegment, whose angles are looked at.
-const MOST: usize = 64;
 
 /// A segment, by its first subsegment, or a facet.
 #[derive(Clone, Copy, PartialEq, Eq, PartialOrd, Ord)]
@@ -17,31 +13,14 @@ pub enum Part {
     Facet(u32),
 }
 
-/// Two parts that meet at less than 60 degrees.
-#[derive(Clone, Copy, PartialEq, Eq, PartialOrd, Ord)]
-struct Meeting {
-    one: Part,
-    other: Part,
-}
-
-/// Which ends of a subsegment are corners of the complex with another subsegment at less than 75
-/// degrees.
-#[derive(Clone, Copy)]
-pub struct SharpEnds {
-    pub first: bool,
-    pub second: bool,
-}
-
-/// The segment of each subsegment, with its sharp ends; the part inside which each point lies; and
-/// the pairs of parts that meet at less than 60 degrees, in both orders.
+/// The segment of each subsegment, the part inside which each point lies, what is at each point,
+/// and the corners of the complex on each part.
 #[derive(Drop)]
 pub struct Parts {
     segments: Vec<Option<u32>>,
-    ends: Vec<SharpEnds>,
     parts: Vec<Option<Part>>,
-    stars: Stars,
+    pub(crate) stars: Stars,
     corners: Corners,
-    meetings: Vec<Meeting>,
 }
 
 /// The corners of the complex on each segment and in each facet; they are the first points.
@@ -53,15 +32,8 @@ struct Corners {
 }
 
 /// The end of a side that is not this one.
-fn other_end(side: Side, v: u32) -> u32 {
+pub(crate) fn other_end(side: Side, v: u32) -> u32 {
     if side.a == v { side.b } else { side.a }
-}
-
-/// The direction of a subsegment from one of its ends.
-fn direction(mesh: &Mesh, e: u32, v: u32) -> Option<Spot> {
-    let side = mesh.subsegments.get(e as usize).copied()?;
-    let (from, to) = mesh.spot(v).zip(mesh.spot(other_end(side, v)))?;
-    Some(to.from(from))
 }
 
 /// Sets the segment of a subsegment unless it is known, and reports whether it was set.
@@ -220,235 +192,6 @@ fn parts_of(
     Ok(parts)
 }
 
-/// The pairs of parts while they are found.
-#[derive(Drop)]
-struct Finder<'a> {
-    mesh: &'a Mesh,
-    stars: &'a Stars,
-    segments: &'a [Option<u32>],
-    meetings: Vec<Meeting>,
-    ends: Vec<SharpEnds>,
-}
-
-/// The first few of a list.
-fn few(list: &[u32]) -> &[u32] {
-    list.get(..MOST).unwrap_or(list)
-}
-
-impl<'a> Finder<'a> {
-    /// Notes that two parts meet at less than 60 degrees.
-    fn note(&mut self, one: Option<Part>, other: Option<Part>) -> Result<(), NoMemory> {
-        if let (Some(one), Some(other)) = (one, other) {
-            let turned = Meeting {
-                one: other,
-                other: one,
-            };
-            self.meetings
-                .extend_from_slice(&[Meeting { one, other }, turned])?;
-        }
-        Ok(())
-    }
-
-    /// Notes that another subsegment meets the end `v` of one at less than 75 degrees.
-    fn note_end(&mut self, e: u32, v: u32) {
-        let place = e as usize;
-        let Some(side) = self.mesh.subsegments.get(place).copied() else {
-            return;
-        };
-        if place < self.ends.len() {
-            if side.a == v {
-                self.ends[place].first = true;
-            } else {
-                self.ends[place].second = true;
-            }
-        }
-    }
-
-    /// Notes two subsegments at a corner of the complex, and reports whether they meet at less than
-    /// 60 degrees. A pair is asked for in both orders.
-    fn note_two(&mut self, e: u32, f: u32, v: u32) -> Result<bool, NoMemory> {
-        let (Some(u), Some(w)) = (direction(self.mesh, e, v), direction(self.mesh, f, v)) else {
-            return Ok(false);
-        };
-        if e == f || !is_within_75(u, w) {
-            return Ok(false);
-        }
-        self.note_end(e, v);
-        if !is_within_60(u, w) {
-            return Ok(false);
-        }
-        if e < f {
-            self.note(part_of(self.segments, e), part_of(self.segments, f))?;
-        }
-        Ok(true)
-    }
-
-    /// Notes a subsegment and a facet at a corner of the complex, where the subsegment is at less
-    /// than 60 degrees to a subface and not in its plane.
-    fn note_facet(&mut self, e: u32, s: u32, v: u32) -> Result<(), NoMemory> {
-        if is_sharp_to(self.mesh, e, s, v) != Some(true) {
-            return Ok(());
-        }
-        self.note(part_of(self.segments, e), facet_of(self.mesh, s))
-    }
-
-    /// Notes the facets at a corner of the complex to which a subsegment is sharp.
-    fn note_facets(&mut self, e: u32, v: u32) -> Result<(), NoMemory> {
-        let stars = self.stars;
-        for s in few(stars.subfaces.at(v)) {
-            self.note_facet(e, *s, v)?;
-        }
-        Ok(())
-    }
-
-    /// Notes a subsegment with the other ones at a corner of the complex.
-    fn note_subsegment(&mut self, e: u32, v: u32) -> Result<(), NoMemory> {
-        let stars = self.stars;
-        let mut is_sharp = false;
-        for f in few(stars.subsegments.at(v)) {
-            if self.note_two(e, *f, v)? {
-                is_sharp = true;
-            }
-        }
-        if is_sharp {
-            self.note_facets(e, v)?;
-        }
-        Ok(())
-    }
-
-    /// Notes the parts that meet at a corner of the complex.
-    fn note_corner(&mut self, v: u32) -> Result<(), NoMemory> {
-        let stars = self.stars;
-        for e in few(stars.subsegments.at(v)) {
-            self.note_subsegment(*e, v)?;
-        }
-        Ok(())
-    }
-
-    /// Notes a subface with the later ones at a subsegment.
-    fn note_subface(&mut self, e: u32, s: u32) -> Result<(), NoMemory> {
-        let stars = self.stars;
-        for t in few(stars.beside.at(e)) {
-            if s < *t && is_sharp_fold(self.mesh, e, s, *t) == Some(true) {
-                self.note(facet_of(self.mesh, s), facet_of(self.mesh, *t))?;
-            }
-        }
-        Ok(())
-    }
-
-    /// Notes the facets that meet at a subsegment.
-    fn note_fold(&mut self, e: u32) -> Result<(), NoMemory> {
-        let stars = self.stars;
-        for s in few(stars.beside.at(e)) {
-            self.note_subface(e, *s)?;
-        }
-        Ok(())
-    }
-
-    /// Notes the parts that meet at the corners of the complex.
-    fn note_corners(&mut self, own: usize) -> Result<(), NoMemory> {
-        for i in 0..own.min(self.mesh.spots.len()) {
-            let Ok(v) = u32::try_from(i) else { break };
-            self.note_corner(v)?;
-        }
-        Ok(())
-    }
-
-    /// Notes the facets that meet at subsegments.
-    fn note_folds(&mut self) -> Result<(), NoMemory> {
-        for i in 0..self.mesh.subsegments.len() {
-            let Ok(e) = u32::try_from(i) else { break };
-            self.note_fold(e)?;
-        }
-        Ok(())
-    }
-}
-
-/// Whether a subsegment from a corner of a subface is off its plane, and at less than 60 degrees to
-/// one of its sides there or to the vector between these.
-fn is_sharp_to(mesh: &Mesh, e: u32, s: u32, v: u32) -> Option<bool> {
-    let Face { a, b, c } = mesh.subfaces.get(s as usize)?.face;
-    let (p, q) = if v == a {
-        (b, c)
-    } else if v == b {
-        (a, c)
-    } else {
-        (a, b)
-    };
-    let corner = mesh.spot(v)?;
-    let (p, q) = (mesh.spot(p)?.from(corner), mesh.spot(q)?.from(corner));
-    let u = direction(mesh, e, v)?;
-    if p.cross(q).dot(u) == 0 {
-        return Some(false);
-    }
-    Some(is_within_60(u, p) || is_within_60(u, q) || is_within_60(u, p.plus(q)))
-}
-
-/// The normal of a subface beside a side, by which two subfaces there are compared.
-fn normal_from(mesh: &Mesh, side: Side, s: u32) -> Option<Spot> {
-    let Face { a, b, c } = mesh.subfaces.get(s as usize)?.face;
-    let apex = if a != side.a && a != side.b {
-        a
-    } else if b != side.a && b != side.b {
-        b
-    } else {
-        c
-    };
-    let (from, to) = mesh.ends_of(side)?;
-    Some(to.from(from).cross(mesh.spot(apex)?.from(from)))
-}
-
-/// Whether two subfaces of different facets meet at less than 60 degrees at a subsegment.
-fn is_sharp_fold(mesh: &Mesh, e: u32, s: u32, t: u32) -> Option<bool> {
-    let side = mesh.subsegments.get(e as usize).copied()?;
-    if mesh.facet(s) == mesh.facet(t) {
-        return Some(false);
-    }
-    let (one, other) = normal_from(mesh, side, s).zip(normal_from(mesh, side, t))?;
-    Some(is_within_60(one, other))
-}
-
-/// The pairs of parts that meet at less than 60 degrees, in both orders, and the sharp ends of each
-/// subsegment.
-#[derive(Drop)]
-struct SharpParts {
-    meetings: Vec<Meeting>,
-    ends: Vec<SharpEnds>,
-}
-
-/// The parts that meet at a sharp angle.
-fn sharp_parts(
-    alloc: Global,
-    mesh: &Mesh,
-    stars: &Stars,
-    segments: &[Option<u32>],
-    own: usize,
-) -> Result<SharpParts, NoMemory> {
-    let none = SharpEnds {
-        first: false,
-        second: false,
-    };
-    let mut ends = Vec::new(alloc);
-    ends.resize(mesh.subsegments.len(), none)?;
-    let mut finder = Finder {
-        mesh,
-        stars,
-        segments,
-        meetings: Vec::new(alloc),
-        ends,
-    };
-    finder.note_corners(own)?;
-    finder.note_folds()?;
-    let Finder {
-        mut meetings,
-        ends,
-        ..
-    } = finder;
-    meetings.sort()?;
-    meetings.dedup();
-    Ok(SharpParts { meetings, ends })
-}
-
 impl Corners {
     /// The corners of the complex on the segments and in the facets.
     fn new(
@@ -473,15 +216,11 @@ impl Parts {
         let segments = segments_of(alloc, mesh, &stars, own)?;
         let parts = parts_of(alloc, mesh, &stars, segments.as_slice(), own)?;
         let corners = Corners::new(alloc, mesh, &stars, segments.as_slice(), own)?;
-        let found = sharp_parts(alloc, mesh, &stars, segments.as_slice(), own)?;
-        let SharpParts { meetings, ends } = found;
         Ok(Parts {
             segments,
-            ends,
             parts,
             stars,
             corners,
-            meetings,
         })
     }
 
@@ -495,24 +234,9 @@ impl Parts {
         part_of(self.segments.as_slice(), e)
     }
 
-    /// Which ends of a subsegment are sharp.
-    pub fn ends(&self, e: u32) -> SharpEnds {
-        let none = SharpEnds {
-            first: false,
-            second: false,
-        };
-        self.ends.get(e as usize).copied().unwrap_or(none)
-    }
-
-    /// Whether two parts meet at less than 60 degrees.
-    pub fn meet(&self, one: Option<Part>, other: Option<Part>) -> bool {
-        match (one, other) {
-            (Some(one), Some(other)) => {
-                let meeting = Meeting { one, other };
-                self.meetings.as_slice().binary_search(&meeting).is_ok()
-            }
-            _ => false,
-        }
+    /// Whether a point is a corner of the complex.
+    pub(crate) fn is_own(&self, v: u32) -> bool {
+        (v as usize) < self.corners.own
     }
 
     /// Whether a part has a corner of the complex.
@@ -553,7 +277,7 @@ impl Parts {
 
     /// Whether a point is on a part, or inside of the complex, or on a part that touches it.
     pub fn is_by(&self, v: u32, part: Part) -> bool {
-        if (v as usize) < self.corners.own {
+        if self.is_own(v) {
             return self.has(part, v);
         }
         match self.at(v) {
@@ -563,48 +287,7 @@ impl Parts {
     }
 
     /// Whether a point is in the facet.
-    fn is_in(&self, v: u32, facet: u32) -> bool {
+    pub(crate) fn is_in(&self, v: u32, facet: u32) -> bool {
         self.stars.facets.at(v).binary_search(&facet).is_ok()
-    }
-
-    /// Whether each of the points is in one of two facets.
-    fn are_in(&self, corners: &[u32; 4], one: u32, other: u32) -> bool {
-        for v in corners {
-            if !self.is_in(*v, one) && !self.is_in(*v, other) {
-                return false;
-            }
-        }
-        true
-    }
-
-    /// Whether all corners are in the facet and another one that it meets at less than 60 degrees.
-    fn are_at_fold(&self, corners: &[u32; 4], facet: u32) -> bool {
-        let one = Part::Facet(facet);
-        let least = Meeting {
-            one,
-            other: Part::Facet(0),
-        };
-        let (Ok(first) | Err(first)) = self.meetings.as_slice().binary_search(&least);
-        for meeting in self.meetings.get(first..).unwrap_or(&[]) {
-            match meeting.other {
-                Part::Facet(other) if meeting.one == one => {
-                    if self.are_in(corners, facet, other) {
-                        return true;
-                    }
-                }
-                _ => return false,
-            }
-        }
-        false
-    }
-
-    /// Whether all corners of a tetrahedron are in two facets that meet at less than 60 degrees.
-    pub fn is_in_fold(&self, corners: &[u32; 4]) -> bool {
-        for facet in self.stars.facets.at(corners[0]) {
-            if self.are_at_fold(corners, *facet) {
-                return true;
-            }
-        }
-        false
     }
 }

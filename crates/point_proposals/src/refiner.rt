@@ -91,7 +91,7 @@ impl<'a> Refiner<'a> {
         }
         let (a, b) = self.field.mesh.ends(e)?;
         let rung = Rung::new(a, b, self.halvings)?;
-        let ends = self.field.parts.ends(e);
+        let ends = self.field.sharp_ends(e);
         match (ends.first, ends.second) {
             (true, false) => rung.shell(false),
             (false, true) => rung.shell(true),

@@ -82,7 +82,7 @@ impl Region {
         } else {
             self.nearest
         };
-        if square >= least || field.parts.meet(part, field.parts.at(v)) {
+        if square >= least || field.meet(part, field.parts.at(v)) {
             return;
         }
         self.nearest = self.nearest.min(square);

@@ -48,7 +48,7 @@ impl Shortest {
             self.side = Some(side);
         }
         let parts = &field.parts;
-        if square < self.free && !parts.meet(parts.at(side.a), parts.at(side.b)) {
+        if square < self.free && !field.meet(parts.at(side.a), parts.at(side.b)) {
             self.free = square;
         }
     }
@@ -120,13 +120,11 @@ struct Search<'a> {
 }
 
 impl<'a> Search<'a> {
-    /// Whether a tetrahedron is slim for another reason than two parts that meet at less than 60
+    /// Whether a slim tetrahedron is so for another reason than two parts that meet at less than 60
     /// degrees.
-    fn is_slim(&self, t: u32, cell: &Cell, radius: u64, shortest: &Shortest) -> bool {
-        let ratio = self.ratio;
-        is_slim(self.field, t, ratio)
-            && (shortest.free == shortest.all || is_over(radius, shortest.free, ratio))
-            && !self.field.parts.is_in_fold(&cell.corners)
+    fn is_free(&self, cell: &Cell, radius: u64, shortest: &Shortest) -> bool {
+        (shortest.free == shortest.all || is_over(radius, shortest.free, self.ratio))
+            && !self.field.is_in_fold(&cell.corners)
     }
 
     /// The tetrahedron among those to be split.
@@ -135,13 +133,16 @@ impl<'a> Search<'a> {
         let [a, b, c, d] = self.field.mesh.corners(t)?;
         let most = self.field.mesh.most(t);
         let volume = volume(a, b, c, d);
+        let is_over = volume > most;
+        if !is_over && !is_slim(self.field, t, self.ratio) {
+            return None;
+        }
         let shortest = shortest_of(self.field, &cell);
         let radius = match self.field.sphere(t) {
             Some(sphere) => sphere.squared,
             None => u64::MAX,
         };
-        let is_over = volume > most;
-        if !is_over && !self.is_slim(t, &cell, radius, &shortest) {
+        if !is_over && !self.is_free(&cell, radius, &shortest) {
             return None;
         }
         let bound = if is_over {

@@ -68,7 +68,7 @@ impl Mover {
         cell.is_live
             && (cell.sine < self.aim || self.sheds_slim && cell.is_slim)
             && cell.failures < TRIALS
-            && (self.is_mending || !field.parts.is_in_fold(&cell.corners))
+            && (self.is_mending || !field.is_in_fold(&cell.corners))
     }
 
     /// The tetrahedra that are to be bettered, those with the least angles first.
