@@ -1,19 +1,22 @@
 //! A mesh with what refinement looks up in it.
 use crate::mesh::{Beyond, Mesh};
 use crate::parts::Parts;
+use crate::sharp::folds_of;
 use crate::sphere::{Sphere, circumsphere};
 use crate::spot::Spot;
 use crate::table::{Entry, Table};
 use std::alloc::Global;
 use tet_ports::NoMemory;
 
-/// A mesh, the circumspheres of its tetrahedra where their centers are near, its parts, and the
-/// tetrahedra at each subsegment and beside each subface.
+/// A mesh, the circumspheres of its tetrahedra where their centers are near, its parts, for each
+/// facet those that it meets at less than 60 degrees, and the tetrahedra at each subsegment and
+/// beside each subface.
 #[derive(Drop)]
 pub struct Field<'a> {
     pub mesh: &'a Mesh,
     pub(crate) spheres: Vec<Option<Sphere>>,
     pub parts: Parts,
+    pub(crate) folds: Table,
     pub around: Table,
     pub beside: Table,
 }
@@ -81,10 +84,13 @@ fn beside_of(alloc: Global, mesh: &Mesh) -> Result<Table, NoMemory> {
 impl<'a> Field<'a> {
     /// What is looked up in a mesh, whose first points are corners of the complex.
     pub fn new(alloc: Global, mesh: &'a Mesh, own: usize) -> Result<Self, NoMemory> {
+        let parts = Parts::new(alloc, mesh, own)?;
+        let folds = folds_of(alloc, mesh, &parts)?;
         Ok(Field {
             mesh,
             spheres: spheres_of(alloc, mesh)?,
-            parts: Parts::new(alloc, mesh, own)?,
+            parts,
+            folds,
             around: around_of(alloc, mesh)?,
             beside: beside_of(alloc, mesh)?,
         })

@@ -130,7 +130,7 @@ fn note_facets_at(stars: &Stars, v: u32, entries: &mut Vec<Entry>) -> Result<(),
 }
 
 /// The number of facets, of those that have subfaces.
-fn facets_of(mesh: &Mesh) -> usize {
+pub(crate) fn facets_of(mesh: &Mesh) -> usize {
     let mut count = 0_usize;
     for subface in mesh.subfaces.as_slice() {
         count = count.max((subface.facet as usize).saturating_add(1));

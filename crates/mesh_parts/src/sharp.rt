@@ -1,9 +1,12 @@
 //! Segments and facets that meet at less than 60 degrees.
 use crate::field::Field;
 use crate::mesh::Mesh;
-use crate::parts::{Part, other_end};
+use crate::parts::{Part, Parts, facets_of, other_end};
 use crate::spot::{Spot, is_within_60, is_within_75};
+use crate::table::{Entry, Table};
 use geo_laws::{Face, Side};
+use std::alloc::Global;
+use tet_ports::NoMemory;
 
 /// The most subsegments at a point, and subfaces at a subsegment, whose angles are looked at.
 const MOST: usize = 64;
@@ -88,15 +91,66 @@ fn are_within_75(mesh: &Mesh, e: u32, f: u32, v: u32) -> bool {
     }
 }
 
+/// Notes the facets of two subfaces, each at the other.
+fn note_facets(mesh: &Mesh, s: u32, t: u32, entries: &mut Vec<Entry>) -> Result<(), NoMemory> {
+    let (Some(one), Some(other)) = (mesh.facet(s), mesh.facet(t)) else {
+        return Ok(());
+    };
+    entries.push(Entry {
+        key: one,
+        value: other,
+    })?;
+    entries.push(Entry {
+        key: other,
+        value: one,
+    })?;
+    Ok(())
+}
+
+/// Notes the facets that a subface beside a subsegment, and a later one there, belong to, where
+/// these meet at less than 60 degrees.
+fn note_subface(
+    mesh: &Mesh,
+    e: u32,
+    s: u32,
+    beside: &[u32],
+    entries: &mut Vec<Entry>,
+) -> Result<(), NoMemory> {
+    for t in beside {
+        if s < *t && is_sharp_fold(mesh, e, s, *t) == Some(true) {
+            note_facets(mesh, s, *t, entries)?;
+        }
+    }
+    Ok(())
+}
+
+/// Notes the facets that meet at a subsegment at less than 60 degrees.
+fn note_fold(
+    mesh: &Mesh,
+    e: u32,
+    beside: &[u32],
+    entries: &mut Vec<Entry>,
+) -> Result<(), NoMemory> {
+    for s in beside {
+        note_subface(mesh, e, *s, beside, entries)?;
+    }
+    Ok(())
+}
+
+/// For each facet those that it meets at less than 60 degrees.
+pub(crate) fn folds_of(alloc: Global, mesh: &Mesh, parts: &Parts) -> Result<Table, NoMemory> {
+    let mut entries = Vec::new(alloc);
+    for i in 0..mesh.subsegments.len() {
+        let Ok(e) = u32::try_from(i) else { break };
+        note_fold(mesh, e, few(parts.stars.beside.at(e)), &mut entries)?;
+    }
+    Table::new(alloc, entries, facets_of(mesh))
+}
+
 impl<'a> Field<'a> {
     /// The first subsegments at a point.
     fn subsegments_at(&self, v: u32) -> &[u32] {
         few(self.parts.stars.subsegments.at(v))
-    }
-
-    /// The first subfaces beside a subsegment.
-    fn subfaces_beside(&self, e: u32) -> &[u32] {
-        few(self.parts.stars.beside.at(e))
     }
 
     /// The subsegment of a segment at a point.
@@ -198,59 +252,6 @@ impl<'a> Field<'a> {
         false
     }
 
-    /// Whether a subface meets one of another facet at a subsegment at less than 60 degrees.
-    fn meets_subface(&self, e: u32, s: u32, facet: u32) -> bool {
-        for t in self.subfaces_beside(e) {
-            if self.mesh.facet(*t) == Some(facet)
-                && is_sharp_fold(self.mesh, e, s, *t) == Some(true)
-            {
-                return true;
-            }
-        }
-        false
-    }
-
-    /// Whether two facets meet at a subsegment at less than 60 degrees.
-    fn do_facets_meet_along(&self, e: u32, one: u32, other: u32) -> bool {
-        for s in self.subfaces_beside(e) {
-            if self.mesh.facet(*s) == Some(one) && self.meets_subface(e, *s, other) {
-                return true;
-            }
-        }
-        false
-    }
-
-    /// Whether two facets meet at a subsegment from a corner of the complex at less than 60
-    /// degrees.
-    fn do_facets_meet_at(&self, one: u32, other: u32, v: u32) -> bool {
-        if !self.parts.is_in(v, one) || !self.parts.is_in(v, other) {
-            return false;
-        }
-        for e in self.subsegments_at(v) {
-            if self.do_facets_meet_along(*e, one, other) {
-                return true;
-            }
-        }
-        false
-    }
-
-    /// Whether two facets meet at less than 60 degrees.
-    fn do_facets_meet(&self, one: u32, other: u32) -> bool {
-        let first = self.parts.corners_of(Part::Facet(one));
-        let second = self.parts.corners_of(Part::Facet(other));
-        let corners = if first.len() <= second.len() {
-            first
-        } else {
-            second
-        };
-        for v in corners {
-            if self.do_facets_meet_at(one, other, *v) {
-                return true;
-            }
-        }
-        false
-    }
-
     /// Whether two parts meet at less than 60 degrees.
     pub fn meet(&self, one: Option<Part>, other: Option<Part>) -> bool {
         let (Some(one), Some(other)) = (one, other) else {
@@ -260,7 +261,7 @@ impl<'a> Field<'a> {
             (Part::Segment(s), Part::Segment(t)) => s != t && self.do_segments_meet(s, t),
             (Part::Segment(s), Part::Facet(f)) => self.meets_facet(s, f),
             (Part::Facet(f), Part::Segment(s)) => self.meets_facet(s, f),
-            (Part::Facet(f), Part::Facet(g)) => f != g && self.do_facets_meet(f, g),
+            (Part::Facet(f), Part::Facet(g)) => self.folds.at(f).binary_search(&g).is_ok(),
         }
     }
 
@@ -274,23 +275,10 @@ impl<'a> Field<'a> {
         true
     }
 
-    /// The first of the points that is not in a facet.
-    fn first_off(&self, corners: &[u32; 4], facet: u32) -> Option<u32> {
-        for v in corners {
-            if !self.parts.is_in(*v, facet) {
-                return Some(*v);
-            }
-        }
-        None
-    }
-
     /// Whether all corners are in the facet and another one that it meets at less than 60 degrees.
     fn are_at_fold(&self, corners: &[u32; 4], facet: u32) -> bool {
-        let Some(v) = self.first_off(corners, facet) else {
-            return false;
-        };
-        for other in self.parts.stars.facets.at(v) {
-            if self.are_in(corners, facet, *other) && self.do_facets_meet(facet, *other) {
+        for other in self.folds.at(facet) {
+            if self.are_in(corners, facet, *other) {
                 return true;
             }
         }
