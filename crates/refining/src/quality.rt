@@ -34,6 +34,8 @@ pub struct Quality<'a> {
     is_mending: bool,
     /// How many meshes in turn were no better than the best one.
     vain: u32,
+    /// Whether the last mesh had hardly fewer angles below the aim than the best one before.
+    is_slow: bool,
 }
 
 impl<'a> Quality<'a> {
@@ -49,6 +51,7 @@ impl<'a> Quality<'a> {
             slim: None,
             is_mending: false,
             vain: 0,
+            is_slow: false,
         }
     }
 
@@ -230,7 +233,7 @@ impl<'a> Propose for Quality<'a> {
             return Ok(None);
         }
         let sheds_slim = self.sheds_slim(mesh);
-        if self.reaches_aim() && !sheds_slim {
+        if (self.is_slow || self.reaches_aim()) && !sheds_slim {
             return Ok(None);
         }
         let mosts = self.mosts(alloc, mesh)?;
@@ -256,6 +259,7 @@ impl<'a> Propose for Quality<'a> {
         self.best = None;
         self.slim = None;
         self.vain = 0;
+        self.is_slow = false;
     }
 
     fn is_better(
@@ -276,6 +280,7 @@ impl<'a> Propose for Quality<'a> {
         } else {
             grade.is_as_good(&best) && self.has_fewer_slim(mesh, than)
         };
+        self.is_slow = grade.mends_few(&best);
         self.next = Some(grade);
         self.slim = None;
         self.vain = if is_better {

@@ -8,12 +8,14 @@ use std::alloc::Global;
 use tet_ports::NoMemory;
 use tet_shapes::Ratio;
 
-/// How many tetrahedra of a mesh are over the bounds, how many have a dihedral angle below the aim,
-/// and the least square of the sine of a dihedral angle. Angles between subfaces are left out.
+/// How many tetrahedra a mesh has, how many of them are over the bounds, how many have a dihedral
+/// angle below the aim, and the least square of the sine of a dihedral angle. Angles between
+/// subfaces are left out.
 #[derive(Clone, Copy)]
 pub struct Grade {
     /// The square of the sine that is aimed at.
     aim: u64,
+    all: usize,
     large: usize,
     slim: usize,
     flat: usize,
@@ -52,6 +54,7 @@ impl Grade {
     fn none(aim: u64) -> Grade {
         Grade {
             aim,
+            all: 0,
             large: 0,
             slim: 0,
             flat: 0,
@@ -64,6 +67,7 @@ impl Grade {
         let (Some(spots), Some(sine)) = (mesh.corners(t), sine_at(mesh, t)) else {
             return;
         };
+        self.all = self.all.wrapping_add(1);
         self.worst = self.worst.min(sine);
         if sine < self.aim {
             self.flat = self.flat.wrapping_add(1);
@@ -85,6 +89,12 @@ impl Grade {
     /// no more are over the bounds.
     pub fn is_as_good(&self, than: &Grade) -> bool {
         self.large <= than.large && self.slim <= than.slim && self.flat == than.flat
+    }
+
+    /// Whether fewer than one tetrahedron in sixteen has an angle below the aim, and fewer than a
+    /// tenth of those of a mesh of the other grade that have one are gone.
+    pub fn mends_few(&self, than: &Grade) -> bool {
+        self.mended(than) < than.flat / 10 && self.flat < self.all / 16
     }
 
     /// How many tetrahedra fewer have an angle below the aim than in a mesh of the other grade.
