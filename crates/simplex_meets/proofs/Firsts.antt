@@ -1,8 +1,7 @@
 -- The first part after another that is not properly met with it, by the tree of the parts' boxes.
-use Rattle.std.proofs.Common.{◌≡◌, ◌⊎◌, inl, inr, ℕ, ◌+◌, ◌<◌, ◌≤◌, Bool, List, length, get_or, Option, Some, None, true, false, refl, ap, sym, subst, ◌∙◌, arith}
+use Rattle.std.proofs.Common.{◌≡◌, ◌⊎◌, inl, inr, ℕ, ◌+◌, ◌<◌, ◌≤◌, List, length, get_or, Option, Some, None, ap, sym, subst, ◌∙◌, arith}
 use Rattle.std.specs.Prelude.{All, Any}
 use Rattle.std.specs.List.{HoldsAt}
-use Rattle.std.proofs.lemmas.Bool.{false≢true}
 use Rattle.std.proofs.lemmas.List.{get_or_default}
 use Rattle.sign_predicates.specs.Point.{Point}
 use Rattle.box_tree.specs.declared.bounds.Bounds.{Bounds}
@@ -14,8 +13,8 @@ use Rattle.simplex_meets.specs.declared.complex_parts.Compared.{Compared}
 use Rattle.simplex_meets.specs.declared.complex_parts.Part.{Part}
 use Rattle.simplex_meets.specs.declared.complex_parts.Part.TheVariants.{Triangle}
 use Rattle.simplex_meets.specs.Parts.{part_numbers, IsPairMet}
-use Rattle.simplex_meets.specs.Boxes.{HoldsPart, IsPartTree, HasPartBoxes, HasUnmarked}
-use Rattle.simplex_meets.specs.Pairs.{AreMetAt, ArePairwiseMet, AreMarkedMet, AreMarkedFrom, IsMarked, IsUnmet, IsFirstPair, IsUnmetFound, IsUpTo, IsNoLater, IsPairSettled, IsFirstAfter, IsFirstAmong}
+use Rattle.simplex_meets.specs.Boxes.{HoldsPart, IsPartTree, HasPartBoxes}
+use Rattle.simplex_meets.specs.Pairs.{AreMetAt, IsUnmet, IsFirstPair, IsUnmetFound, IsUpTo, IsNoLater, IsPairSettled, IsFirstAfter, IsFirstAmong}
 use Rattle.simplex_meets.proofs.Apart.{met_apart}
 
 -- what stands for a part at a place beyond the end
@@ -114,35 +113,6 @@ pub first_of_whole : (compared : Compared) (ps : List Point) (parts : List Part)
     → IsPartTree ps parts nodes → IsFirstAmong compared ps parts i nodes found → IsFirstAfter compared ps parts i found
 first_of_whole compared ps parts i nodes found tree first = (first.0, λ j h. settled_of compared ps parts i nodes found j first.1 (tree.each j h))
 
-marked_or_not : (marks : List Bool) (j : ℕ) → IsMarked marks j ⊎ ¬ IsMarked marks j
-marked_or_not marks j = go (get_or marks j true) refl
-  where
-    go : (b : Bool) → get_or marks j true ≡ b → IsMarked marks j ⊎ ¬ IsMarked marks j
-    go true e = inl e
-    go false e = inr (λ h. false≢true (sym e ∙ h))
-
--- where each part has one that is not marked
-pub first_of_unmarked : (compared : Compared) (ps : List Point) (parts : List Part) (marks : List Bool) (i : ℕ) (nodes : List Node) (found : Option ℕ)
-    → AreMarkedMet compared ps parts marks → HasUnmarked parts marks nodes → IsMarked marks i → IsFirstAmong compared ps parts i nodes found
-    → IsFirstAfter compared ps parts i found
-first_of_unmarked compared ps parts marks i nodes found met unmarked m first = (first.0, λ j h. go j h (marked_or_not marks j))
-  where
-    go : (j : ℕ) → j < length parts → IsMarked marks j ⊎ ¬ IsMarked marks j → IsPairSettled compared ps parts i found j
-    go j h (inl k) after = inl (met i j after h m k)
-    go j h (inr none) after = settled_of compared ps parts i nodes found j first.1 (unmarked j h none) after
-
--- where none is left
-pub all_marked_met : (compared : Compared) (ps : List Point) (parts : List Part) (marks : List Bool) (nodes : List Node) → length nodes ≡ 0
-    → AreMarkedMet compared ps parts marks → HasUnmarked parts marks nodes → ArePairwiseMet compared ps parts
-all_marked_met compared ps parts marks nodes none met unmarked i j d l n = met i j l n (marked i (omega arith)) (marked j n) d
-  where
-    marked : (k : ℕ) → k < length parts → IsMarked marks k
-    marked k h = go (marked_or_not marks k)
-      where
-        go : IsMarked marks k ⊎ ¬ IsMarked marks k → IsMarked marks k
-        go (inl m) = m
-        go (inr none_of) = let a = unmarked k h none_of in let b = a.2 in absurd (omega arith)
-
 -- ---- all parts
 
 -- the parts after the one at i are properly met with it, where none is found
@@ -162,19 +132,6 @@ met_more compared ps parts i before first k l o h n = go (below_or k i o)
     go : (k < i) ⊎ (k ≡ i) → AreMetAt compared ps parts k l
     go (inl c) = before k l c h n
     go (inr e) = subst (λ m. AreMetAt compared ps parts m l) (sym e) (none_after compared ps parts i first l (omega arith) n)
-
--- where the parts from a place on are marked, all are properly met if those before it are with all later ones
-pub rest_met : (compared : Compared) (ps : List Point) (parts : List Part) (marks : List Bool) (n end : ℕ) → AreMarkedFrom marks end → AreMarkedMet compared ps parts marks
-    → ((k : ℕ) → n ≤ k → k < length parts → end ≤ k) → ((k l : ℕ) → k < n → k < l → l < length parts → AreMetAt compared ps parts k l)
-    → ArePairwiseMet compared ps parts
-rest_met compared ps parts marks n end marked met past before i j d h l = go (before_or i n)
-  where
-    before_or : (i n : ℕ) → (i < n) ⊎ (n ≤ i)
-    before_or i n = grind arith
-
-    go : (i < n) ⊎ (n ≤ i) → IsPairMet compared ps (get_or parts i d) (get_or parts j d)
-    go (inl b) = before i j b h l d
-    go (inr o) = let e : end ≤ i = past i o (omega arith) in met i j h l (marked i e) (marked j (omega arith)) d
 
 -- the first pair is that of the first part that has one, and the first after it
 pub first_pair_is : (compared : Compared) (ps : List Point) (parts : List Part) (i j : ℕ)

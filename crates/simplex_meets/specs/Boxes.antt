@@ -1,5 +1,5 @@
 -- The boxes of parts.
-use Rattle.std.specs.Prelude.{◌≡◌, ℕ, ◌<◌, Bool, List, length, All, Any, slice_index_or}
+use Rattle.std.specs.Prelude.{ℕ, ◌<◌, List, length, All, slice_index_or}
 use Rattle.sign_predicates.specs.Point.{Point}
 use Rattle.box_tree.specs.declared.bounds.Bounds.{Bounds}
 use Rattle.box_tree.specs.declared.tree.Node.{Node}
@@ -7,7 +7,6 @@ use Rattle.box_tree.specs.Bounds.{HoldsCorners}
 use Rattle.box_tree.specs.Tree.{IsTree, IsTreeOver}
 use Rattle.simplex_meets.specs.declared.complex_parts.Part.{Part}
 use Rattle.simplex_meets.specs.Parts.{part_numbers}
-use Rattle.simplex_meets.specs.Pairs.{IsMarked}
 
 -- the box holds the corners of the part at this place
 abbrev pub HoldsPart : List Point → List Part → ℕ → Bounds → Type 0
@@ -21,7 +20,3 @@ IsPartTree ps parts nodes = IsTreeOver (length parts) (HoldsPart ps parts) nodes
 pub record HasPartBoxes (ps : List Point) (parts : List Part) (nodes : List Node) : Type 0 where
   pub tree : IsTree nodes
   pub listed : All (λ n. (n.own.place < length parts) × HoldsPart ps parts n.own.place n.own.bounds) nodes
-
--- there is a box for each part that is not marked
-abbrev pub HasUnmarked : List Part → List Bool → List Node → Type 0
-HasUnmarked parts marks nodes = (i : ℕ) → i < length parts → ¬ IsMarked marks i → Any (λ n. n.own.place ≡ i) nodes

@@ -68,3 +68,39 @@ IsFirstAfter compared ps parts i found =
 abbrev pub IsFirstAmong : Compared → List Point → List Part → ℕ → List Node → Option ℕ → Type 0
 IsFirstAmong compared ps parts i nodes found =
     IsUnmetFound compared ps parts i found × All (λ n. IsPairSettled compared ps parts i found n.own.place) nodes
+
+-- ---- pairs of any two parts
+
+-- the places found are those of two parts that are not properly met
+abbrev pub IsUnmetPair : Compared → List Point → List Part → Option (ℕ × ℕ) → Type 0
+IsUnmetPair compared ps parts None = ⊤
+IsUnmetPair compared ps parts (Some r) = IsUnmet compared ps parts r.0 r.1
+
+-- the pair found stands before that of i and j, by the first place and then by the second, or is that pair
+abbrev pub IsPairUpTo : Option (ℕ × ℕ) → ℕ → ℕ → Type 0
+IsPairUpTo None i j = ⊥
+IsPairUpTo (Some r) i j = (r.0 < i) ⊎ ((r.0 ≡ i) × (r.1 ≤ j))
+
+-- the pair found now is not after the one before
+abbrev pub IsPairNoLater : Option (ℕ × ℕ) → Option (ℕ × ℕ) → Type 0
+IsPairNoLater before now = (i j : ℕ) → IsPairUpTo before i j → IsPairUpTo now i j
+
+-- the parts at i and j are properly met, or the pair found is not after theirs
+abbrev pub IsSettled : Compared → List Point → List Part → Option (ℕ × ℕ) → ℕ → ℕ → Type 0
+IsSettled compared ps parts found i j = AreMetAt compared ps parts i j ⊎ IsPairUpTo found i j
+
+-- the pair of i and j is settled, where j is after i, and where j is before i and marked
+pub record IsSettledBeside (compared : Compared) (ps : List Point) (parts : List Part) (marks : List Bool) (found : Option (ℕ × ℕ))
+    (i j : ℕ) : Type 0 where
+  pub after : i < j → IsSettled compared ps parts found i j
+  pub before : j < i → IsMarked marks j → IsSettled compared ps parts found j i
+
+-- the pairs of the part at i with all later ones and with all marked ones before it are settled
+abbrev pub AreSettledBeside : Compared → List Point → List Part → List Bool → Option (ℕ × ℕ) → ℕ → Type 0
+AreSettledBeside compared ps parts marks found i = (j : ℕ) → j < length parts → IsSettledBeside compared ps parts marks found i j
+
+-- the pairs of each part before n that is not marked are settled
+pub record IsLeastTo (compared : Compared) (ps : List Point) (parts : List Part) (marks : List Bool) (n : ℕ) (found : Option (ℕ × ℕ))
+    : Type 0 where
+  pub is_found : IsUnmetPair compared ps parts found
+  pub settled : (i : ℕ) → i < n → ¬ IsMarked marks i → AreSettledBeside compared ps parts marks found i

@@ -2,7 +2,7 @@
 ghost use Rattle.std.specs.Prelude.{All, IfOk, IsTrue, ◌↔◌};
 ghost use Rattle.box_tree.specs.Bounds.{HoldsCorners};
 ghost use Rattle.simplex_meets.specs.Parts.{IsPart, part_numbers};
-ghost use Rattle.simplex_meets.specs.Boxes.{HasPartBoxes, HasUnmarked, IsPartTree};
+ghost use Rattle.simplex_meets.specs.Boxes.{IsPartTree};
 ghost use Rattle.simplex_meets.specs.Pairs.{IsMarked, AreMarkedFrom};
 
 use crate::complex_parts::Part;
@@ -61,24 +61,4 @@ pub(crate) fn unmarked_end(marks: &[bool]) -> usize
         end -= 1;
     }
     end
-}
-
-/// The AABB tree of the parts that are not marked.
-pub(crate) fn unmarked_tree(
-    alloc: Global,
-    points: &Points,
-    parts: &[Part],
-    marks: &[bool],
-) -> Result<Tree, NoMemory>
-    requires { All (IsPart points.now) parts.now }
-    ensures boxes { IfOk result (HasPartBoxes points.now parts.now) }
-    ensures unmarked { IfOk result (HasUnmarked parts.now marks.now) }
-{
-    let mut boxes = Items::new(alloc);
-    for place in 0..parts.len() {
-        if !is_marked(marks, place) {
-            boxes.push(box_of(part_bounds(points, parts[place]), place))?;
-        }
-    }
-    tree_of(alloc, boxes)
 }
