@@ -1,8 +1,9 @@
 -- The letters of the command line, and what its words ask for.
-use Rattle.std.specs.Prelude.{ℕ, ◌≡◌, ◌≤◌, Bool, false, true, ◌==◌, ◌&&◌, ◌||◌, not, Option, Some, None, IfSome, List, [], ◌∷◌, codes, unwrap_or, if◌then◌else◌}
+use Rattle.std.specs.Prelude.{ℕ, ◌≡◌, ◌≤◌, Bool, false, true, ◌==◌, ◌&&◌, ◌||◌, not, Option, Some, None, IfSome, List, [], ◌∷◌, codes, unwrap_or, unsigned_abs, if◌then◌else◌}
 use Rattle.std.specs.List.{list_any}
 use Rattle.std.specs.Option.{option_or}
 use Rattle.grid_coords.specs.Origins.{IsNearBy}
+use Rattle.tet_text.specs.Decimals.{Scaled}
 use Rattle.command_words.specs.Formats.{no_formats}
 use Rattle.command_words.specs.Names.{extension_of, base_of}
 use Rattle.command_words.specs.Words.{budget_at_front, is_cluster, is_sampled, is_switched, last_from, last_number, name_of, sample_words}
@@ -64,6 +65,7 @@ options_within halvings words = record {
   budget = unwrap_or (last_budget words) 100000;
   halvings = unwrap_or (last_number (codes "--halvings=") halvings words) halvings;
   decimals = last_number (codes "--decimals=") 20 words;
+  unit = None;
   origin = None;
   sample = sample_words words;
   base = base_of (name_of words);
@@ -74,11 +76,18 @@ options_within halvings words = record {
 abbrev pub options_of : List (List ℕ) → Options
 options_of = options_within 12
 
+-- coordinates may be rounded to multiples of the number: of one to three digits, over 1 in units of its last decimal
+pub record IsUnit (u : Scaled) : Type 0 where
+  pub least : 2 ≤ unsigned_abs u.value
+  pub most : unsigned_abs u.value ≤ 999
+  pub fine : u.scale ≤ 20
+
 -- the numbers of options are in their ranges, and the origin is near with the decimals
 pub record AreInRange (options : Options) : Type 0 where
   pub budget : options.budget ≤ 100000
   pub halvings : options.halvings ≤ 18
   pub decimals : IfSome options.decimals (λ n. n ≤ 20)
+  pub unit : IfSome options.unit IsUnit
   pub sample : IfSome options.sample (λ n. n ≤ 10000)
   pub near : IfSome options.origin (IsNearBy options.decimals)
 

@@ -16,6 +16,7 @@ use crate::numbers::{DECIMALS, HALVINGS, MOST_DECIMALS, MOST_HALVINGS, last_numb
 use grid_coords::WholePoint;
 use std::alloc::Global;
 use tet_ports::{Name, Words};
+use tet_text::Decimal;
 
 /// The extension with which a name on the command line ends.
 #[derive(Clone, Copy, Debug, PartialEq, Eq)]
@@ -80,6 +81,9 @@ pub struct Options {
     pub halvings: u32,
     /// Round coordinates to this many decimals first, at most 20.
     pub decimals: Option<u32>,
+    /// Round coordinates to multiples of this before that: a number of one to three digits, with at
+    /// most 20 decimals. No word of this grammar gives it.
+    pub unit: Option<Decimal>,
     /// The point from which the coordinates of the input are measured: the files have its
     /// coordinates added. No word gives it.
     pub origin: Option<WholePoint>,
@@ -153,6 +157,7 @@ pub fn read_words_within(alloc: Global, words: &Words, halvings: u32) -> Result<
         budget: last_budget(words).unwrap_or(MOST_BUDGET),
         halvings: last_number(HALVINGS, halvings, words).unwrap_or(halvings),
         decimals: last_number(DECIMALS, MOST_DECIMALS, words),
+        unit: None,
         origin: None,
         sample,
         base: Name::from_slice(alloc, base_of(name))?,
