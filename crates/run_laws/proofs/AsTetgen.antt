@@ -1,6 +1,6 @@
 -- The outputs of `tetfit` are those of `tetgen` by words that ask for the same: both read one model, put it on one grid, and make one mesh.
-use Rattle.std.proofs.Common.{◌≡◌, ◌⊎◌, inl, inr, ℕ, Bool, true, false, ◌||◌, List, map, Option, None, Some, Result, Ok, refl, ap, sym, subst, ◌∙◌, if◌then◌else◌}
-use Rattle.std.specs.Option.{option_map, option_or}
+use Rattle.std.proofs.Common.{◌≡◌, ◌⊎◌, inl, inr, ℕ, Bool, true, false, ◌||◌, List, [], ◌++◌, map, Option, None, Some, Result, Ok, refl, ap, sym, subst, ◌∙◌, if◌then◌else◌}
+use Rattle.std.specs.Option.{option_map, option_map_or, option_or}
 use Rattle.std.specs.Prelude.{is_some}
 use Rattle.std.proofs.lemmas.Bool.{true≢false}
 use Rattle.command_words.specs.Meaning.{options_of}
@@ -43,7 +43,9 @@ use Rattle.run_steps.specs.declared.outputs.Outputs.{Outputs}
 use Rattle.run_steps.specs.declared.status.Status.{Status}
 use Rattle.tetfit_run.specs.Measured.{complex_from, most_tried, moved_model, origin_in, tried}
 use Rattle.tetfit_run.specs.Models.{named_surface, surface_form, surface_text_of, ModelBy, ReadAnswer, SurfaceAnswer, SurfaceInputAnswer}
-use Rattle.tetfit_run.specs.Hints.{moved_text}
+use Rattle.tet_text.specs.Decimals.{Scaled}
+use Rattle.tetfit_run.specs.Units.{input_by as in_unit}
+use Rattle.tetfit_run.specs.Hints.{decimals_moved, moved_text, unit_moved}
 use Rattle.tetfit_run.specs.Outputs.{fit_limits, outputs_at}
 use Rattle.tetfit_run.specs.Run.{options_from, IsFinalMesh, IsMeshOfModel, IsTriedOf}
 use Rattle.tetfit_run.specs.Trying.{at_decimals}
@@ -177,11 +179,16 @@ unmeasured : (options : Options) (input : Input) → options.origin ≡ None →
 unmeasured options input e = ap (λ (o : Option WholePoint). tried (record options { origin = o }) input) e
 
 -- the model as it is tried is the one that is read
-tried_read : (words : List (List ℕ)) (folder : FolderSeen) (options : Options) (input at : Input) → options.origin ≡ None → IsTriedOf options words folder input at
+tried_read : (words : List (List ℕ)) (folder : FolderSeen) (options : Options) (input at : Input) → (fit_options words).unit ≡ None → options.origin ≡ None → IsTriedOf options words folder input at
     → (read : Input) × ReadAnswer fit_limits folder (fit_name words) (fit_options words) (Ok read) × (at ≡ read)
-tried_read words folder options input at e ((read, named, moved), origin, is) =
+tried_read words folder options input at unitless e ((read, named, moved_in), origin, is) =
+    let moved : input ≡ moved_model read = moved_in ∙ ap (λ (u : Option Scaled). moved_model (in_unit u read)) unitless in
     let still : origin_in read ≡ None = sym (ap origin_in moved) ∙ sym origin ∙ e in
     (read, named, is ∙ unmeasured options input e ∙ moved ∙ unmoved read still)
+
+-- no line tells of a unit where there is none
+line_without : (options : Options) (n : ℕ) (ps : List DecimalPoint) → options.unit ≡ None → moved_text options n ps ≡ decimals_moved n ps
+line_without options n ps e = ap (λ (u : Option Scaled). option_map_or unit_moved u [] ++ decimals_moved n ps) e
 
 -- ---- the grid
 
@@ -297,9 +304,13 @@ module _ (words of_tetgen : List (List ℕ)) (told : Files) (folder : FolderSeen
   same_options : at_decimals run.decimals (options_from run.origin words) ≡ with_halvings (fit_options words).halvings (options_of of_tetgen)
   same_options = ap (λ (o : Option WholePoint). at_decimals run.decimals (options_from o words)) alike.unmeasured ∙ alike.options
 
+  -- they have no unit
+  unitless : (fit_options words).unit ≡ None
+  unitless = ap (λ (o : Options). o.unit) alike.options
+
   same_input : run.mesh.input ≡ alike.input
   same_input =
-      let own = tried_read words folder (at_decimals run.decimals (options_from run.origin words)) run.mesh.read.0 run.mesh.input alike.unmeasured run.mesh.read.1 in
+      let own = tried_read words folder (at_decimals run.decimals (options_from run.origin words)) run.mesh.read.0 run.mesh.input unitless alike.unmeasured run.mesh.read.1 in
       let halved = input_halved (fit_options words).halvings (options_of of_tetgen) tetgen_limits folder alike.input alike.read in
       let asked = subst (λ (o : Options). InputAnswer tetgen_limits folder o (Ok alike.input)) (sym alike.options) halved in
       let plain : InputAnswer tetgen_limits folder (fit_options words) (Ok alike.input) = input_plain (fit_options words).piecewise tetgen_limits folder words run.decimals alike.input asked in
@@ -331,10 +342,11 @@ module _ (words of_tetgen : List (List ℕ)) (told : Files) (folder : FolderSeen
   unbounded =
       subst (λ goal. IsFinalMesh goal (options_from run.origin words) words folder run.decimals run.made run.final_decimals run.final) alike.unbounded run.refined
 
-  same_outputs : outputs ≡ outputs_at run.decimals (moved_text run.decimals alike.input.nodes.decimals) run.made
+  same_outputs : outputs ≡ outputs_at run.decimals (decimals_moved run.decimals alike.input.nodes.decimals) run.made
   same_outputs =
-      let line : run.more ≡ moved_text run.decimals alike.input.nodes.decimals =
-      run.mesh.read.3 ∙ ap (λ (n : ℕ). moved_text n run.mesh.read.0.nodes.decimals) unbounded.0 ∙ ap (λ (i : Input). moved_text run.decimals i.nodes.decimals) same_model in
+      let line : run.more ≡ decimals_moved run.decimals alike.input.nodes.decimals =
+      run.mesh.read.3 ∙ line_without (options_from run.origin words) run.final_decimals run.mesh.read.0.nodes.decimals unitless
+      ∙ ap (λ (n : ℕ). decimals_moved n run.mesh.read.0.nodes.decimals) unbounded.0 ∙ ap (λ (i : Input). decimals_moved run.decimals i.nodes.decimals) same_model in
       run.outputs_are ∙ ap (λ (n : ℕ). outputs_at n run.more run.final) unbounded.0 ∙ ap (λ (o : Outputs). outputs_at run.decimals run.more o) unbounded.1
       ∙ ap (λ (more : List ℕ). outputs_at run.decimals more run.made) line
 

@@ -21,13 +21,15 @@ use Rattle.run_steps.specs.declared.outputs.Outputs.{Outputs}
 use Rattle.run_steps.specs.declared.status.Status.{Status}
 use Rattle.run_steps.specs.declared.status.Status.TheVariants.{Done, NoFill, NoMemory}
 use Rattle.run_steps.proofs.Once.{meshed_same}
-use Rattle.tetfit_run.specs.Measured.{complex_from, most_tried, origin_in, points_by, tried, MovedAnswer}
+use Rattle.tet_text.specs.Decimals.{Scaled}
+use Rattle.tetfit_run.specs.Measured.{complex_from, most_tried, moved_model, origin_in, points_by, tried, MovedAnswer}
 use Rattle.tetfit_run.specs.Models.{named_surface, surface_text_of, ModelAnswer, ModelBy, ReadAnswer, SurfaceAnswer}
 use Rattle.tetfit_run.specs.Hints.{moved_text}
 use Rattle.tetfit_run.specs.Outputs.{fit_limits, outputs_at}
 use Rattle.tetfit_run.specs.Run.{options_from, IsFinalMesh, IsMeshOfModel}
 use Rattle.tetfit_run.specs.Trying.{at_decimals, is_of_grid, IsFitted}
 use Rattle.tetfit_run.specs.Words.{fit_goal, fit_name, fit_options, grammar_words}
+use Rattle.tetfit_run.specs.Units.{input_by, point_by, points_in}
 use Rattle.run_laws.specs.OneFit.{OneFitLaw}
 use Rattle.run_laws.proofs.OneOutputs.{outputs_once}
 use Rattle.run_laws.proofs.ReadInputs.{budget_small}
@@ -46,7 +48,7 @@ module _ (told : Files) (one two : FolderSeen) (e : one.files_before ≡ Some to
 
   model_give : (name : List ℕ) (options : Options) → GiveSame (ModelAnswer fit_limits one name options) (ModelAnswer fit_limits two name options)
   model_give name options =
-      and_then_give (ReadAnswer fit_limits one name options) (ReadAnswer fit_limits two name options) MovedAnswer MovedAnswer (read_by (named_surface options) name options) (λ input read a b h k. h ∙ sym k)
+      and_then_give (ReadAnswer fit_limits one name options) (ReadAnswer fit_limits two name options) (MovedAnswer options.unit) (MovedAnswer options.unit) (read_by (named_surface options) name options) (λ input read a b h k. h ∙ sym k)
 
 -- ---- its corners
 
@@ -63,9 +65,19 @@ still_corners : (origin : Option WholePoint) (most first count : ℕ) (complex :
 still_corners None most first count complex = refl
 still_corners (Some w) most first count complex = same_corners w (most + 6) complex first count
 
+moved_checked : (input : Input) → IsChecked input → IsChecked (moved_model input)
+moved_checked input h = still_corners (origin_in input) (most_tried input) input.nodes.first (length input.nodes.decimals) input.complex ∙ h
+
+-- as many points are in units
+as_many_in : (unit : Option Scaled) (points : List DecimalPoint) → length (points_in unit points) ≡ length points
+as_many_in None points = refl
+as_many_in (Some u) points = length-map points (point_by u)
+
 model_checked : (folder : FolderSeen) (name : List ℕ) (options : Options) (input : Input) → options.piecewise ≡ true → ModelAnswer fit_limits folder name options (Ok input) → IsChecked input
 model_checked folder name options input e (read, named, moved) =
-    subst IsChecked (sym moved) (still_corners (origin_in read) (most_tried read) read.nodes.first (length read.nodes.decimals) read.complex ∙ read_checked (named_surface options) folder name options read e named)
+    subst IsChecked (sym moved) (moved_checked (input_by options.unit read)
+    (subst (λ n. corners_check read.nodes.first n read.complex ≡ Ok tt) (sym (as_many_in options.unit read.nodes.decimals))
+    (read_checked (named_surface options) folder name options read e named)))
 
 -- as many points are tried
 as_many_tried : (origin : Option WholePoint) (decimals : Option ℕ) (points : List DecimalPoint) → length (points_by origin decimals points) ≡ length points
@@ -111,7 +123,7 @@ record IsPlainFit (words : List (List ℕ)) (folder : FolderSeen) (outputs : Out
   decimals : ℕ
   made : Outputs
   fitted : IsFitted fit_limits (options_from (origin_in input) words) input decimals (Ok made)
-  is : outputs ≡ outputs_at decimals (moved_text decimals input.nodes.decimals) made
+  is : outputs ≡ outputs_at decimals (moved_text (fit_options words) decimals input.nodes.decimals) made
 
 plain_fit : (words : List (List ℕ)) (folder : FolderSeen) (outputs : Outputs) → fit_goal words ≡ None → IsMeshOfModel words folder outputs → IsPlainFit words folder outputs
 plain_fit words folder outputs plain run =
@@ -124,7 +136,7 @@ plain_fit words folder outputs plain run =
       fitted = subst (λ (o : Option WholePoint). IsFitted fit_limits (options_from o words) read.0 run.decimals (Ok run.made)) read.1.1 read.2;
       is =
           run.outputs_are ∙ ap (λ (n : ℕ). outputs_at n run.more run.final) end.0 ∙ ap (λ (o : Outputs). outputs_at run.decimals run.more o) end.1
-          ∙ ap (λ (more : List ℕ). outputs_at run.decimals more run.made) (read.3 ∙ ap (λ (n : ℕ). moved_text n read.0.nodes.decimals) end.0);
+          ∙ ap (λ (more : List ℕ). outputs_at run.decimals more run.made) (read.3 ∙ ap (λ (n : ℕ). moved_text (fit_options words) n read.0.nodes.decimals) end.0);
     }
 
 pub one_fit : OneFitLaw
@@ -139,5 +151,5 @@ one_fit words told one two p q plain e f h k =
     let at = at_decimals a.decimals options in
     let made = outputs_once fit_limits at (tried at a.input) (omega arith) (budget_small (grammar_words words)) (λ piecewise. tried_checked at a.input (model_checked one (fit_name words) (fit_options words) a.input piecewise a.read)) a.made b.made
     a.fitted.answer again.answer in
-    a.is ∙ ap (λ (n : ℕ). outputs_at n (moved_text n a.input.nodes.decimals) a.made) decimals ∙ ap (λ (i : Input). outputs_at b.decimals (moved_text b.decimals i.nodes.decimals) a.made) inputs
-    ∙ ap (λ (o : Outputs). outputs_at b.decimals (moved_text b.decimals b.input.nodes.decimals) o) made ∙ sym b.is
+    a.is ∙ ap (λ (n : ℕ). outputs_at n (moved_text options n a.input.nodes.decimals) a.made) decimals ∙ ap (λ (i : Input). outputs_at b.decimals (moved_text options b.decimals i.nodes.decimals) a.made) inputs
+    ∙ ap (λ (o : Outputs). outputs_at b.decimals (moved_text options b.decimals b.input.nodes.decimals) o) made ∙ sym b.is

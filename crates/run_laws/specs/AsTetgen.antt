@@ -16,7 +16,7 @@ use Rattle.run_steps.specs.Reading.{InputAnswer}
 use Rattle.run_steps.specs.declared.input.Input.{Input}
 use Rattle.run_steps.specs.declared.mesh.Bound.{Bound}
 use Rattle.run_steps.specs.declared.outputs.Outputs.{Outputs}
-use Rattle.tetfit_run.specs.Hints.{moved_text}
+use Rattle.tetfit_run.specs.Hints.{decimals_moved}
 use Rattle.tetfit_run.specs.Models.{named_surface}
 use Rattle.tetfit_run.specs.Outputs.{outputs_at}
 use Rattle.tetfit_run.specs.Run.{IsMeshOfModel, options_from}
@@ -52,7 +52,7 @@ pub record AreOfTetgen (of_tetgen : List (List ℕ)) (folder : FolderSeen) (deci
     : Type 0 where
   pub made : Outputs
   pub answer : OutputsOfRun tetgen_limits of_tetgen folder (Ok made)
-  pub outputs_are : outputs ≡ outputs_at decimals (moved_text decimals points) made
+  pub outputs_are : outputs ≡ outputs_at decimals (decimals_moved decimals points) made
   pub only : (other : Outputs) → OutputsOfRun tetgen_limits of_tetgen folder (Ok other) → other ≡ made
 
 -- The outputs of a run of `tetfit` over told files are those of `tetgen` by words that ask for the same

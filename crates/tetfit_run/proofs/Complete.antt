@@ -4,6 +4,7 @@ use Rattle.std.specs.Prelude.{◌≢◌}
 use Rattle.box_tree.proofs.Lists.{less_or_more}
 use Rattle.command_words.specs.declared.options.Extension.{Extension}
 use Rattle.command_words.specs.declared.options.Options.{Options}
+use Rattle.tet_text.specs.Decimals.{Scaled}
 use Rattle.tetfit_run.specs.Measured.{MovedAnswer, last_tried, tried, with_origin}
 use Rattle.tetfit_run.specs.Models.{ModelAnswer, ModelBy, ReadAnswer, SurfaceAnswer, named_surface, surface_text_of}
 use Rattle.tetfit_run.specs.Trying.{IsFitted, at_decimals, is_of_grid}
@@ -62,14 +63,14 @@ model_by_once (Some form) told seen name options h =
     and_then_once (SurfaceAnswer fit_limits seen name form) (λ file. AndThen (NodesAnswer fit_limits seen base file.text.nodes) (BoundedAnswer file)) (surface_once told seen name form h)
     (λ file. and_then_once (NodesAnswer fit_limits seen base file.text.nodes) (BoundedAnswer file) (nodes_once fit_limits told seen base file.text.nodes h) (bounded_once file))
 
-moved_once : (input : Input) → IsOnce (MovedAnswer input)
-moved_once input (Ok a) (Ok b) n m h k = ap (λ x. Ok x) (h ∙ sym k)
-moved_once input (Err s) r n m h k = absurd (n h)
-moved_once input (Ok a) (Err t) n m h k = absurd (m k)
+moved_once : (unit : Option Scaled) (input : Input) → IsOnce (MovedAnswer unit input)
+moved_once unit input (Ok a) (Ok b) n m h k = ap (λ x. Ok x) (h ∙ sym k)
+moved_once unit input (Err s) r n m h k = absurd (n h)
+moved_once unit input (Ok a) (Err t) n m h k = absurd (m k)
 
 model_once : (told : Files) (seen : FolderSeen) (name : List ℕ) (options : Options) → IsTold told seen → IsOnce (ModelAnswer fit_limits seen name options)
 model_once told seen name options h =
-    and_then_once (ReadAnswer fit_limits seen name options) MovedAnswer (model_by_once (named_surface options) told seen name options h) moved_once
+    and_then_once (ReadAnswer fit_limits seen name options) (MovedAnswer options.unit) (model_by_once (named_surface options) told seen name options h) (moved_once options.unit)
 
 -- ---- the decimals
 

@@ -246,13 +246,13 @@ wanted_made words folder wanted outputs w h = (wanted, w, h)
 -- ---- what is fitted
 
 pub fitted_told : (wanted : Wanted) (input : Input) (m n : ℕ) (made final : Outputs) (more : List ℕ) → IsFitted fit_limits wanted.options input m (Ok made) → is_empty made ≡ false
-    → IsFinalBy wanted.goal wanted.options input m made n final → more ≡ moved_text n input.nodes.decimals → IsFittedTo wanted input (Ok (outputs_at n more final))
+    → IsFinalBy wanted.goal wanted.options input m made n final → more ≡ moved_text wanted.options n input.nodes.decimals → IsFittedTo wanted input (Ok (outputs_at n more final))
 fitted_told wanted input m n made final more h some f k =
     inl (record { decimals = m; made = made; fitted = h; some = some; n = n; final = final; final_by = f; is = ap (λ t. outputs_at n t final) k })
 
 -- with points on the segments
 pub conformed_told : (wanted : Wanted) (input : Input) (n : ℕ) (final : Outputs) (more : List ℕ) → IsConformedBy wanted.goal wanted.options input n final
-    → more ≡ moved_text n input.nodes.decimals → IsFittedTo wanted input (Ok (outputs_at n more final))
+    → more ≡ moved_text wanted.options n input.nodes.decimals → IsFittedTo wanted input (Ok (outputs_at n more final))
 conformed_told wanted input n final more h k = inr (n, final, h, ap (λ t. outputs_at n t final) k)
 
 -- the grid refuses an input where it is refused
@@ -283,6 +283,11 @@ module _ (words : List (List ℕ)) (folder : FolderSeen) (outputs : Outputs) (wa
   read : ModelAnswer fit_limits folder (fit_name words) (fit_options words) (Ok input)
   read = subst (λ (q : Wanted). ModelAnswer fit_limits folder q.name q.options (Ok input)) e read_so
 
+  -- the outputs, by the options of the words
+  told_by : (n : ℕ) (final : Outputs) → outputs ≡ outputs_at n (moved_text (with_origin input wanted.options) n input.nodes.decimals) final
+      → outputs ≡ outputs_at n (moved_text (with_origin input o) n input.nodes.decimals) final
+  told_by n final = subst (λ (q : Wanted). outputs ≡ outputs_at n (moved_text (with_origin input q.options) n input.nodes.decimals) final) e
+
   model_mesh : IsMeshedTo (wanted_from input wanted) input outputs → IsMeshOfModel words folder outputs
   model_mesh h =
       let m = h.decimals in
@@ -290,7 +295,7 @@ module _ (words : List (List ℕ)) (folder : FolderSeen) (outputs : Outputs) (wa
       let n = h.n in
       let fitted = subst (λ (q : Wanted). IsFitted fit_limits (with_origin input q.options) input m (Ok made)) e h.fitted in
       let last = subst (λ (q : Wanted). IsFinalBy q.goal (with_origin input q.options) input m made n h.final) e h.final_by in
-      let more = moved_text n input.nodes.decimals in
+      let more = moved_text (with_origin input o) n input.nodes.decimals in
       let at = at_decimals m (with_origin input o) in record {
         origin = origin_in input;
         decimals = m;
@@ -300,14 +305,14 @@ module _ (words : List (List ℕ)) (folder : FolderSeen) (outputs : Outputs) (wa
         more = more;
         some = h.some;
         mesh = mesh_by fit_limits at (fit_fault words ≡ None) (λ placed. (i : Input) × IsTriedOf at words folder i placed
-            × IsFitted fit_limits (with_origin input o) i m (Ok made) × (more ≡ moved_text n i.nodes.decimals))
+            × IsFitted fit_limits (with_origin input o) i m (Ok made) × (more ≡ moved_text (with_origin input o) n i.nodes.decimals))
             (tried at input) made understood.0 (input, (read, refl, refl), fitted, refl) fitted.answer;
         refined = final_mesh (fit_goal words) words folder input m n made h.final understood.0 read last;
-        outputs_are = h.is;
+        outputs_are = told_by n h.final h.is;
       }
 
   -- with points on its segments
-  conformed_at : (goal : Goal) (n : ℕ) (final : Outputs) → IsConformedAt goal (with_origin input o) input n final → outputs ≡ outputs_at n (moved_text n input.nodes.decimals) final
+  conformed_at : (goal : Goal) (n : ℕ) (final : Outputs) → IsConformedAt goal (with_origin input o) input n final → outputs ≡ outputs_at n (moved_text (with_origin input o) n input.nodes.decimals) final
       → IsConformedModel goal words folder outputs
   conformed_at goal n final h is =
       let at = at_decimals n (with_origin input o) in record {
@@ -322,7 +327,7 @@ module _ (words : List (List ℕ)) (folder : FolderSeen) (outputs : Outputs) (wa
         outputs_are = is;
       }
 
-  conformed_by : (goal : Option Goal) (n : ℕ) (final : Outputs) → IsConformedBy goal (with_origin input o) input n final → outputs ≡ outputs_at n (moved_text n input.nodes.decimals) final
+  conformed_by : (goal : Option Goal) (n : ℕ) (final : Outputs) → IsConformedBy goal (with_origin input o) input n final → outputs ≡ outputs_at n (moved_text (with_origin input o) n input.nodes.decimals) final
       → IsModelMesh goal words folder outputs
   conformed_by None n final h is = absurd h
   conformed_by (Some goal) n final h is = inr (conformed_at goal n final h is)
@@ -333,7 +338,7 @@ module _ (words : List (List ℕ)) (folder : FolderSeen) (outputs : Outputs) (wa
 
   fitted_asked : IsFittedTo (wanted_from input wanted) input (Ok outputs) → IsModelMesh (fit_goal words) words folder outputs
   fitted_asked (inl h) = meshed_by (fit_goal words) (model_mesh h)
-  fitted_asked (inr h) = conformed_by (fit_goal words) h.0 h.1 (subst (λ (q : Wanted). IsConformedBy q.goal (with_origin input q.options) input h.0 h.1) e h.2) h.3
+  fitted_asked (inr h) = conformed_by (fit_goal words) h.0 h.1 (subst (λ (q : Wanted). IsConformedBy q.goal (with_origin input q.options) input h.0 h.1) e h.2) (told_by h.0 h.1 h.3)
 
 model_asked : (words : List (List ℕ)) (folder : FolderSeen) (outputs : Outputs) → OutputsOfModel words folder (Ok outputs) → IsModelMesh (fit_goal words) words folder outputs
 model_asked words folder outputs h = fitted_asked words folder outputs h.0 h.1 h.2.0 h.2.1 h.2.2

@@ -21,3 +21,4 @@ mod FacetSides
 mod SideBoxes
 mod Copied
 mod Ratios
+mod Multiples

@@ -105,6 +105,7 @@ triable options input ranges near = λ m le.
     record {
       budget = ranges.budget;
       halvings = ranges.halvings;
+      unit = ranges.unit;
       sample = ranges.sample;
       near = near_of (origin_in input) m (near_below (origin_in input) m (most_tried input) le near);
     }

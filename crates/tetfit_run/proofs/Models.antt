@@ -17,6 +17,7 @@ use Rattle.run_steps.proofs.Refusals.{want_has, fetch_has, text_has, nodes_have,
 use Rattle.run_steps.proofs.Steps.{and_then_ok, and_then_refuses, and_then_wider}
 use Rattle.tet_ports.proofs.Windows.{IsWithin}
 use Rattle.run_steps.proofs.Wider.{fetch_wider, bounded_wider, input_wider}
+use Rattle.tet_text.specs.Decimals.{Scaled}
 use Rattle.tet_text.specs.declared.fault.TextFault.{TextFault}
 use Rattle.tetfit_run.specs.Models.{stated_of, surface_text_of, named_surface, IsStatedBy, IsStatedIf, IsStatedInSurface, SurfaceAnswer, SurfaceInputAnswer, ModelBy, ModelAnswer, MovedFrom, ReadAnswer}
 use Rattle.tetfit_run.specs.Measured.{MovedAnswer}
@@ -24,9 +25,9 @@ use Rattle.tetfit_run.specs.declared.model.Model.{Model}
 use Rattle.tetfit_run.specs.declared.model.Stated.{Stated}
 
 -- the options name a surface, and this is read of it
-pub surface_model : (limits : Limits) (seen : FolderSeen) (name : List ℕ) (options : Options) (form : Extension) (r : Result Input Status) → named_surface options ≡ Some form → AndThen (SurfaceInputAnswer limits seen name options.base form) MovedAnswer r
+pub surface_model : (limits : Limits) (seen : FolderSeen) (name : List ℕ) (options : Options) (form : Extension) (r : Result Input Status) → named_surface options ≡ Some form → AndThen (SurfaceInputAnswer limits seen name options.base form) (MovedAnswer options.unit) r
     → ModelAnswer limits seen name options r
-surface_model limits seen name options form r named = subst (λ o. AndThen (ModelBy o limits seen name options) MovedAnswer r) (sym named)
+surface_model limits seen name options form r named = subst (λ o. AndThen (ModelBy o limits seen name options) (MovedAnswer options.unit) r) (sym named)
 
 -- what the bytes of a file spell that is fetched by its name
 pub surface_fetched : (limits : Limits) (seen : FolderSeen) (wanted : List ℕ) (form : Extension) (asked name bytes : List ℕ) (r : Result ComplexFile Status) → asked ≡ wanted → name ≡ asked → IsRead limits seen.files_before asked bytes
@@ -36,14 +37,15 @@ surface_fetched limits seen wanted form asked name bytes r a n read spelled =
     (subst (λ x. IsRead limits seen.files_before x bytes) a read) (subst (λ x. AndThen (TextAnswer x (surface_text_of form bytes)) (λ text. Gives (complex_file x text)) r) (n ∙ a) spelled)
 
 -- what is read, and moved
-pub moved_on : (Read : Result Input Status → Type 0) (read moved : Result Input Status) → Read read → MovedFrom read moved → AndThen Read MovedAnswer moved
-moved_on Read (Ok input) moved r m = and_then_ok Read MovedAnswer input moved r m
-moved_on Read (Err status) moved r m = subst (AndThen Read MovedAnswer) (sym m) (inl r)
+pub moved_on : (unit : Option Scaled) (Read : Result Input Status → Type 0) (read moved : Result Input Status) → Read read → MovedFrom unit read moved
+    → AndThen Read (MovedAnswer unit) moved
+moved_on unit Read (Ok input) moved r m = and_then_ok Read (MovedAnswer unit) input moved r m
+moved_on unit Read (Err status) moved r m = subst (AndThen Read (MovedAnswer unit)) (sym m) (inl r)
 
 -- no surface is named, and this is read
-pub other_model : (limits : Limits) (seen : FolderSeen) (name : List ℕ) (options : Options) (read r : Result Input Status) → named_surface options ≡ None → InputAnswer limits seen options read → MovedFrom read r
+pub other_model : (limits : Limits) (seen : FolderSeen) (name : List ℕ) (options : Options) (read r : Result Input Status) → named_surface options ≡ None → InputAnswer limits seen options read → MovedFrom options.unit read r
     → ModelAnswer limits seen name options r
-other_model limits seen name options read r named h m = moved_on (ReadAnswer limits seen name options) read r (subst (λ o. ModelBy o limits seen name options read) (sym named) h) m
+other_model limits seen name options read r named h m = moved_on options.unit (ReadAnswer limits seen name options) read r (subst (λ o. ModelBy o limits seen name options read) (sym named) h) m
 
 -- what the places of points in a file count, by the bytes that were fetched
 pub stated_told : (limits : Limits) (seen : FolderSeen) (wanted : List ℕ) (form : Extension) (asked bytes : List ℕ) (stated : Stated) (r : Result Model Status) → asked ≡ wanted → IsRead limits seen.files_before asked bytes
@@ -74,7 +76,7 @@ module _ (limits : Limits) (part wide : FolderSeen) (w : IsWithin part wide) whe
 
   pub model_wider : (name : List ℕ) (options : Options) (r : Result Input Status) → ModelAnswer limits part name options r → ModelAnswer limits wide name options r
   model_wider name options =
-      and_then_wider (ReadAnswer limits part name options) (ReadAnswer limits wide name options) MovedAnswer MovedAnswer (model_by_wider (named_surface options) name options) (λ input r h. h)
+      and_then_wider (ReadAnswer limits part name options) (ReadAnswer limits wide name options) (MovedAnswer options.unit) (MovedAnswer options.unit) (model_by_wider (named_surface options) name options) (λ input r h. h)
 
 -- what each refusal of the reading of a model has
 module _ (P : Status → Type 0) (missing : (name : List ℕ) → P (Missing name)) (failed : (name : List ℕ) → P (ReadFault name)) (bad : (name : List ℕ) (fault : TextFault) → P (BadText name fault))
@@ -97,4 +99,4 @@ module _ (P : Status → Type 0) (missing : (name : List ℕ) → P (Missing nam
 
   pub model_has : (limits : Limits) (seen : FolderSeen) (name : List ℕ) (options : Options) (s : Status) → ModelAnswer limits seen name options (Err s) → P s
   model_has limits seen name options =
-      and_then_refuses P (ReadAnswer limits seen name options) MovedAnswer (model_by_has (named_surface options) limits seen name options) (λ input s h. subst P (sym h) want)
+      and_then_refuses P (ReadAnswer limits seen name options) (MovedAnswer options.unit) (model_by_has (named_surface options) limits seen name options) (λ input s h. subst P (sym h) want)

@@ -68,6 +68,7 @@ ranges_without options m ranges e over = record {
   budget = ranges.budget;
   halvings = ranges.halvings;
   decimals = tt;
+  unit = ranges.unit;
   sample = ranges.sample;
   near = far options.origin (subst (λ (d : Option ℕ). IfSome options.origin (IsNearBy d)) e ranges.near);
 }
@@ -77,4 +78,4 @@ ranges_without options m ranges e over = record {
     far (Some w) near = let fine = near.fine in absurd (omega arith)
 
 pub ranges_within : (options : Options) → AreInTriedRange options → IfSome options.decimals (λ n. n ≤ 20) → AreInRange options
-ranges_within options ranges few = record { budget = ranges.budget; halvings = ranges.halvings; decimals = few; sample = ranges.sample; near = ranges.near }
+ranges_within options ranges few = record { budget = ranges.budget; halvings = ranges.halvings; decimals = few; unit = ranges.unit; sample = ranges.sample; near = ranges.near }

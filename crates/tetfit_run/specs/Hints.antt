@@ -1,5 +1,5 @@
 -- The lines that follow the message on a refused model.
-use Rattle.std.specs.Prelude.{◌≡◌, ℕ, zero, suc, ◌+◌, ◌-◌, min, max, nat_lt, nat_le, ◌==◌, ◌&&◌, Bool, true, false, length, position, find, map, unwrap_or, slice_index, List, [], ◌∷◌, ◌++◌, codes, Option, Some, None, Ok, Err, IfSome, if◌then◌else◌}
+use Rattle.std.specs.Prelude.{◌≡◌, ℕ, zero, suc, ◌+◌, ◌-◌, ◌*◌, min, max, unsigned_abs, nat_lt, nat_le, ◌==◌, ◌&&◌, ◌||◌, Bool, true, false, length, position, find, map, unwrap_or, slice_index, List, [], ◌∷◌, ◌++◌, codes, Option, Some, None, is_some, Ok, Err, IfSome, if◌then◌else◌}
 use Rattle.std.specs.Fmt.{decimal}
 use Rattle.std.specs.List.{list_any}
 use Rattle.std.specs.Option.{option_map_or}
@@ -31,7 +31,7 @@ use Rattle.tet_shapes.specs.Nearest.{IsNear}
 use Rattle.tet_shapes.specs.Narrow.{IsNarrow}
 use Rattle.tet_shapes.specs.declared.narrow.NarrowCorner.{NarrowCorner}
 use Rattle.tet_shapes.specs.declared.nearest.Near.{Near}
-use Rattle.tet_text.specs.Decimals.{lowest}
+use Rattle.tet_text.specs.Decimals.{Scaled, lowest}
 use Rattle.tet_text.specs.Printing.{decimal_text, sign_text, size_text}
 use Rattle.tetfit_run.specs.Measured.{BoundTried, MeshedTried}
 use Rattle.tetfit_run.specs.Placed.{IsPlaced}
@@ -206,9 +206,16 @@ abbrev pub rounded_text : Option ℕ → ℕ → List ℕ
 rounded_text None most = []
 rounded_text (Some m) most = if nat_lt m most then rounded_line m most else []
 
--- the line where the points of the file have more decimals than the options
+-- the text of a unit
+abbrev pub unit_text : Scaled → List ℕ
+unit_text u = units_text u.scale (unsigned_abs u.value)
+
+abbrev pub multiples_line : Scaled → List ℕ
+multiples_line u = codes "tetfit: coordinates were rounded to multiples of " ++ unit_text u ++ codes "\n"
+
+-- the line on the unit of the options, or, where they have none, that where the points of the file have more decimals than the options
 abbrev pub rounding_text : Options → List DecimalPoint → List ℕ
-rounding_text options points = rounded_text options.decimals (most_decimals points)
+rounding_text options points = option_map_or multiples_line options.unit (rounded_text options.decimals (most_decimals points))
 
 -- the line on points that span no tetrahedron: all lie in one plane, or the file has none
 abbrev pub flat_line : List DecimalPoint → List ℕ
@@ -228,8 +235,21 @@ abbrev pub moved_line : ℕ → List ℕ
 moved_line m = codes "tetfit: rounding moved each coordinate by at most " ++ half_unit m ++ codes "\n"
 
 -- the line where the points of the file have more than m decimals
-abbrev pub moved_text : ℕ → List DecimalPoint → List ℕ
-moved_text m points = if nat_lt m (most_decimals points) then moved_line m else []
+abbrev pub decimals_moved : ℕ → List DecimalPoint → List ℕ
+decimals_moved m points = if nat_lt m (most_decimals points) then moved_line m else []
+
+-- half the unit: five times as many tenths
+abbrev pub half_of : Scaled → List ℕ
+half_of u = units_text (u.scale + 1) (5 * unsigned_abs u.value)
+
+-- the line that rounding to multiples of the unit moved coordinates by at most half of it
+abbrev pub unit_moved : Scaled → List ℕ
+unit_moved u =
+    codes "tetfit: rounding to multiples of " ++ unit_text u ++ codes " moved each coordinate by at most " ++ half_of u ++ codes "\n"
+
+-- the line on the unit of the options, where they have one, and that where the points have more than m decimals
+abbrev pub moved_text : Options → ℕ → List DecimalPoint → List ℕ
+moved_text options m points = option_map_or unit_moved options.unit [] ++ decimals_moved m points
 
 -- ---- the lines
 
@@ -270,10 +290,14 @@ abbrev pub parts_text : Options → List DecimalPoint → Numbering → Option P
 parts_text options points by placed one two =
     part_line points by placed one ++ part_line points by placed two ++ rounding_text options points
 
--- the file has more decimals than the coordinates were rounded to
-abbrev pub is_rounded : Option ℕ → ℕ → Bool
-is_rounded None most = false
-is_rounded (Some m) most = nat_lt m most
+-- the points have more decimals than the coordinates were rounded to
+abbrev pub has_more_decimals : Option ℕ → ℕ → Bool
+has_more_decimals None most = false
+has_more_decimals (Some m) most = nat_lt m most
+
+-- coordinates were rounded to multiples of a unit, or the points have more decimals
+abbrev pub is_rounded : Options → ℕ → Bool
+is_rounded options most = is_some options.unit || has_more_decimals options.decimals most
 
 -- what would help two parts that cross once coordinates are rounded, or as they are in the file
 abbrev pub parts_help : Bool → List ℕ
@@ -285,7 +309,7 @@ parts_help true =
 -- the lines of two parts that cross, with what would help
 abbrev pub crossing_text : Options → List DecimalPoint → Numbering → Option Placed → Part → Part → List ℕ
 crossing_text options points by placed one two =
-    parts_text options points by placed one two ++ parts_help (is_rounded options.decimals (most_decimals points))
+    parts_text options points by placed one two ++ parts_help (is_rounded options (most_decimals points))
 
 -- such lines, with the coordinates of added points
 pub record TellsCrossing (limits : Limits) (options : Options) (input : Input) (by : Numbering) (one two : Part) (lines : List ℕ)

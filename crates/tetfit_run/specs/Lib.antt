@@ -20,4 +20,5 @@ pub mod Placed
 pub mod Sides
 pub mod Trial
 pub mod Trying
+pub mod Units
 pub mod Measured

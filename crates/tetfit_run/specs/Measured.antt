@@ -16,6 +16,8 @@ use Rattle.run_steps.specs.declared.mesh.Bound.{Bound}
 use Rattle.run_steps.specs.declared.outputs.Outputs.{Outputs}
 use Rattle.run_steps.specs.declared.status.Status.{Status}
 use Rattle.run_steps.specs.declared.status.Status.TheVariants.{NoMemory}
+use Rattle.tet_text.specs.Decimals.{Scaled}
+use Rattle.tetfit_run.specs.Units.{input_by}
 
 -- the point from which a model is measured: the middle of its box, in whole numbers
 abbrev pub origin_in : Input → Option WholePoint
@@ -65,10 +67,10 @@ complex_from (Some w) most complex = measured_plc w (most + 6) complex
 abbrev pub moved_model : Input → Input
 moved_model input = record input { complex = complex_from (origin_in input) (most_tried input) input.complex }
 
--- this model, or out of memory
-abbrev pub MovedAnswer : Input → Result Input Status → Type 0
-MovedAnswer input (Ok moved) = moved ≡ moved_model input
-MovedAnswer input (Err status) = status ≡ NoMemory
+-- this model, with its points rounded to multiples of the unit first, where there is one, or out of memory
+abbrev pub MovedAnswer : Option Scaled → Input → Result Input Status → Type 0
+MovedAnswer unit input (Ok moved) = moved ≡ moved_model (input_by unit input)
+MovedAnswer unit input (Err status) = status ≡ NoMemory
 
 -- the options, with coordinates measured from the origin of the model
 abbrev pub with_origin : Input → Options → Options

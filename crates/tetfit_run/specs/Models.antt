@@ -15,6 +15,7 @@ use Rattle.soup_files.specs.BinaryStl.{is_binary_stl, binary_stl_of}
 use Rattle.soup_files.specs.Off.{wide_off_of}
 use Rattle.soup_files.specs.Solids.{wide_stl_of}
 use Rattle.tet_ports.specs.Files.{Holds}
+use Rattle.tet_text.specs.Decimals.{Scaled}
 use Rattle.tet_text.specs.declared.fault.TextFault.{TextFault}
 use Rattle.tet_text.specs.Lines.{content_lines, line_count_of}
 use Rattle.tetfit_run.specs.Measured.{MovedAnswer}
@@ -57,14 +58,15 @@ ModelBy None limits seen name options = InputAnswer limits seen options
 abbrev pub ReadAnswer : Limits → FolderSeen → List ℕ → Options → Result Input Status → Type 0
 ReadAnswer limits seen name options = ModelBy (named_surface options) limits seen name options
 
--- that model, with its hole points and region points measured from its origin
+-- that model, with its points rounded to multiples of the unit, where the options have one, and with its hole points and region points
+-- measured from its origin
 abbrev pub ModelAnswer : Limits → FolderSeen → List ℕ → Options → Result Input Status → Type 0
-ModelAnswer limits seen name options = AndThen (ReadAnswer limits seen name options) MovedAnswer
+ModelAnswer limits seen name options = AndThen (ReadAnswer limits seen name options) (MovedAnswer options.unit)
 
 -- the model that is made of what was read
-abbrev pub MovedFrom : Result Input Status → Result Input Status → Type 0
-MovedFrom (Ok input) moved = MovedAnswer input moved
-MovedFrom (Err status) moved = moved ≡ Err status
+abbrev pub MovedFrom : Option Scaled → Result Input Status → Result Input Status → Type 0
+MovedFrom unit (Ok input) moved = MovedAnswer unit input moved
+MovedFrom unit (Err status) moved = moved ≡ Err status
 
 -- the input of a model that is read
 abbrev pub input_in : Result Model Status → Result Input Status

@@ -77,7 +77,7 @@ pub record IsMeshedTo (wanted : Wanted) (input : Input) (outputs : Outputs) : Ty
   pub n : ℕ
   pub final : Outputs
   pub final_by : IsFinalBy wanted.goal wanted.options input decimals made n final
-  pub is : outputs ≡ outputs_at n (moved_text n input.nodes.decimals) final
+  pub is : outputs ≡ outputs_at n (moved_text wanted.options n input.nodes.decimals) final
 
 -- at some number of decimals that is tried the grid refuses the input
 pub record IsOffSomeGrid (options : Options) (input : Input) : Type 0 where
@@ -104,7 +104,7 @@ IsConformedBy (Some goal) options input n final = IsConformedAt goal options inp
 abbrev pub IsConformedTo : Wanted → Input → Outputs → Type 0
 IsConformedTo wanted input outputs =
     (n : ℕ) × (final : Outputs) × IsConformedBy wanted.goal wanted.options input n final
-    × (outputs ≡ outputs_at n (moved_text n input.nodes.decimals) final)
+    × (outputs ≡ outputs_at n (moved_text wanted.options n input.nodes.decimals) final)
 
 -- The outputs of an input, or its refusal, at as many decimals as the grid does not refuse; a mesh without a tetrahedron
 -- is refused. Where tetrahedra are bounded and the grid refuses the input at some number of decimals, the outputs of a refused input

@@ -2,9 +2,9 @@
 use Rattle.std.specs.Prelude.{ℕ, ◌-◌, ◌==◌, ◌||◌, nat_eq, nat_lt, length, List, [], codes, if◌then◌else◌}
 use Rattle.std.specs.List.{slice_index_or, starts_with}
 use Rattle.command_words.specs.Words.{is_cluster, is_long, is_name}
-use Rattle.tetfit_run.specs.Words.{is_shape, is_volume, keeps_boundary}
+use Rattle.tetfit_run.specs.Words.{is_shape, is_unit, is_volume, keeps_boundary}
 use Rattle.tetfit_run.specs.declared.reason.Reason.{Reason}
-use Rattle.tetfit_run.specs.declared.reason.Reason.TheVariants.{Shapes, Shape, Volumes, Volume, Sizes, Boundary, Order, Insertion, Coarsening, Optimization, Tolerance, Exactness, Crossings, Voronoi, MeditFiles, Weights, Check, BesideCheck, OwnWord, Sample, Number, NoSwitch, EmptyWord, SecondName, NoName, LongWord, Letter}
+use Rattle.tetfit_run.specs.declared.reason.Reason.TheVariants.{Shapes, Shape, Volumes, Volume, Sizes, Boundary, Order, Insertion, Coarsening, Optimization, Tolerance, Exactness, Crossings, Voronoi, MeditFiles, Weights, Check, BesideCheck, OwnWord, Sample, Unit, Number, NoSwitch, EmptyWord, SecondName, NoName, LongWord, Letter}
 
 -- letters of TetGen that have no meaning here
 abbrev pub reason_of : ℕ → Reason
@@ -43,6 +43,7 @@ cluster_reason word place =
 abbrev pub long_reason : List ℕ → Reason
 long_reason word =
     if starts_with nat_eq word (codes "--sample=") then Sample else
+    if is_unit word then Unit else
     if starts_with nat_eq word (codes "--decimals=") || starts_with nat_eq word (codes "--halvings=") then Number else LongWord
 
 -- why a word is not understood at this place

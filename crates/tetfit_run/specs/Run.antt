@@ -106,7 +106,7 @@ pub record IsMeshOfModel (words : List (List ℕ)) (folder : FolderSeen) (output
   pub mesh : IsMeshBy fit_limits (at_decimals decimals (options_from origin words)) (fit_fault words ≡ None)
       (λ at. (input : Input) × IsTriedOf (at_decimals decimals (options_from origin words)) words folder input at
       × IsFitted fit_limits (options_from origin words) input decimals (Ok made)
-      × (more ≡ moved_text final_decimals input.nodes.decimals)) made
+      × (more ≡ moved_text (options_from origin words) final_decimals input.nodes.decimals)) made
   pub refined : IsFinalMesh (fit_goal words) (options_from origin words) words folder decimals made final_decimals final
   pub outputs_are : outputs ≡ outputs_at final_decimals more final
 
@@ -123,7 +123,7 @@ pub record IsConformedModel (goal : Goal) (words : List (List ℕ)) (folder : Fo
   pub conformed : IsConformedAt goal (options_from origin words) input final_decimals final
   pub mesh : IsRefinedMeshBy goal fit_limits (at_decimals final_decimals (options_from origin words)) (fit_fault words ≡ None)
       (λ at. at ≡ tried (at_decimals final_decimals (options_from origin words)) input) (λ bound. Unit {0}) final
-  pub outputs_are : outputs ≡ outputs_at final_decimals (moved_text final_decimals input.nodes.decimals) final
+  pub outputs_are : outputs ≡ outputs_at final_decimals (moved_text (options_from origin words) final_decimals input.nodes.decimals) final
 
 -- what the outputs of a model are, by the bounds on its tetrahedra
 abbrev pub IsModelMesh : Option Goal → List (List ℕ) → FolderSeen → Outputs → Type 0

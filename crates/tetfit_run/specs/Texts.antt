@@ -3,7 +3,7 @@ use Rattle.std.specs.Prelude.{ℕ, ◌-◌, ◌&&◌, nat_lt, length, List, [], 
 use Rattle.std.specs.List.{slice_index_or}
 use Rattle.command_words.specs.Words.{is_cluster}
 use Rattle.tetfit_run.specs.declared.reason.Reason.{Reason}
-use Rattle.tetfit_run.specs.declared.reason.Reason.TheVariants.{Shapes, Shape, Volumes, Volume, Sizes, Boundary, Order, Insertion, Coarsening, Optimization, Tolerance, Exactness, Crossings, Voronoi, MeditFiles, Weights, Check, BesideCheck, OwnWord, Sample, Number, NoSwitch, EmptyWord, SecondName, NoName, LongWord, Letter}
+use Rattle.tetfit_run.specs.declared.reason.Reason.TheVariants.{Shapes, Shape, Volumes, Volume, Sizes, Boundary, Order, Insertion, Coarsening, Optimization, Tolerance, Exactness, Crossings, Voronoi, MeditFiles, Weights, Check, BesideCheck, OwnWord, Sample, Unit, Number, NoSwitch, EmptyWord, SecondName, NoName, LongWord, Letter}
 use Rattle.tetfit_run.specs.Reasons.{why_no_check, why_not}
 
 abbrev pub reason_text : Reason → List ℕ
@@ -28,6 +28,7 @@ reason_text Check = codes "a mesh is checked by -rC, a word of its own"
 reason_text BesideCheck = codes "only -Q and a name go with -rC"
 reason_text OwnWord = codes "this letter is a word of its own, with its hyphen"
 reason_text Sample = codes "the sample is meshed by tetgen"
+reason_text Unit = codes "a unit above 0 with at most 3 digits and 20 decimals is wanted"
 reason_text Number = codes "a number within its limit is wanted"
 reason_text NoSwitch = codes "a switch is wanted behind the hyphen"
 reason_text EmptyWord = codes "the word is empty"

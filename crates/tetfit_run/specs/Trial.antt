@@ -1,5 +1,6 @@
 -- A trial: an input with options and limits.
 use Rattle.std.specs.Prelude.{ℕ, ◌≤◌, map, IfSome}
+use Rattle.command_words.specs.Meaning.{IsUnit}
 use Rattle.command_words.specs.declared.options.Options.{Options}
 use Rattle.grid_coords.specs.Origins.{IsNearBy}
 use Rattle.node_files.specs.Limits.{AreIndexable}
@@ -27,6 +28,7 @@ rounded_nodes m nodes = record nodes { decimals = map (rounded_point m) nodes.de
 pub record AreInTriedRange (options : Options) : Type 0 where
   pub budget : options.budget ≤ 100000
   pub halvings : options.halvings ≤ 18
+  pub unit : IfSome options.unit IsUnit
   pub sample : IfSome options.sample (λ n. n ≤ 10000)
   pub near : IfSome options.origin (IsNearBy options.decimals)
 

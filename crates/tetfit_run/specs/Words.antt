@@ -163,9 +163,50 @@ fit_goal words =
       splits_boundary = not (list_any keeps_boundary words);
     }) else None
 
+-- ---- words that give the unit to whose multiples coordinates are rounded: --unit= with a decimal behind it
+
+abbrev pub is_unit : List ℕ → Bool
+is_unit word = starts_with nat_eq word (codes "--unit=")
+
+-- the number has from one to three digits, without zeros at its ends, is above 0, and has at most 20 decimals
+abbrev pub is_unit_number : Scaled → Bool
+is_unit_number d = (int_lt (pos 0) d.value && nat_le (unsigned_abs d.value) 999) && nat_le d.scale 20
+
+abbrev pub if_unit : Scaled → Option Scaled
+if_unit d = if is_unit_number d then Some d else None
+
+-- the unit that the word gives
+abbrev pub unit_in : List ℕ → Option Scaled
+unit_in word = if is_unit word then option_and_then if_unit (decimal_of (drop 7 word)) else None
+
+-- the last unit counts
+abbrev pub last_unit : Option Scaled → List (List ℕ) → Option Scaled
+last_unit last [] = last
+last_unit last (word ∷ more) = last_unit (option_or (unit_in word) last) more
+
+abbrev pub fit_unit : List (List ℕ) → Option Scaled
+fit_unit words = last_unit None words
+
+-- so many decimals are tried where this unit is given, in place of this number
+abbrev pub decimals_of_unit : Option Scaled → Option ℕ → Option ℕ
+decimals_of_unit None decimals = decimals
+decimals_of_unit (Some u) decimals = Some u.scale
+
+-- a unit of 1 in its last decimal asks for the decimals alone
+abbrev pub more_than_one : Option Scaled → Option Scaled
+more_than_one None = None
+more_than_one (Some u) = if nat_lt 1 (unsigned_abs u.value) then Some u else None
+
+abbrev pub is_bad_unit : List ℕ → Bool
+is_bad_unit word = is_unit word && not (is_some (unit_in word))
+
+-- the word gives a bound or a unit in a form that is none
+abbrev pub is_bad : List ℕ → Bool
+is_bad word = is_bad_bound word || is_bad_unit word
+
 -- a word of this program alone that is not about the stages
 abbrev pub is_own : List ℕ → Bool
-is_own word = is_of_goal word || is_format word
+is_own word = (is_of_goal word || is_unit word) || is_format word
 
 -- ---- the other words are those of the program that meshes exact texts, but for three things, which this program does not do
 
@@ -247,6 +288,8 @@ fit_options words =
       formats = formats;
       halvings = halvings_for formats.second_order plain;
       regions = plain.regions || list_any asks_limits words;
+      decimals = decimals_of_unit (fit_unit words) plain.decimals;
+      unit = more_than_one (fit_unit words);
     }
 
 -- and with them the name of the model, and what the tetrahedra are to be like
@@ -284,11 +327,11 @@ goal_fault words piecewise =
     if is_some (fit_goal words) then (if piecewise then None else Some (first_bounding words, 3))
     else option_map (λ i. (i + 1, 2)) (position keeps_boundary words)
 
--- The first fault of these words: a word that bounds volumes or shapes and gives no bound, else one of the plain words,
+-- The first fault of these words: a word that gives a bound or a unit in a form that is none, else one of the plain words,
 -- else one of those that say what tetrahedra are to be like
 abbrev pub fit_fault : List (List ℕ) → Option (ℕ × ℕ)
 fit_fault words =
-    option_or (option_map (λ i. (i + 1, 3)) (position is_bad_bound words))
+    option_or (option_map (λ i. (i + 1, 3)) (position is_bad words))
     (option_or (option_map (among_all words) (plain_fault (grammar_words words)))
     (goal_fault words (fit_options words).piecewise))
 

@@ -178,21 +178,10 @@ fn is_bad_volume(word: &[u8]) -> bool
 }
 
 /// Whether the word bounds volumes or shapes, and gives no bound.
-fn is_bad_bound(word: &[u8]) -> bool
+pub(crate) fn is_bad_bound(word: &[u8]) -> bool
     ensures { result ≡ is_bad_bound word.now }
 {
     is_bad_volume(word) || is_shape(word) && shape_in(word).is_none()
-}
-
-/// The first word that bounds volumes or shapes and gives no bound, by its place from 0.
-pub(crate) fn bad_bound(words: &Words) -> Option<usize>
-    ensures value { result ≡ position is_bad_bound words.now }
-    ensures there { IfSome result (λ i. i < 2 ^ 63) }
-{
-    words
-        .as_slice()
-        .iter()
-        .position(|word| is_bad_bound(word.as_slice()))
 }
 
 /// The last volume that a word gives.

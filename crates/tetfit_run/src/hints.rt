@@ -2,14 +2,16 @@
 //! fault, and the decimals to which coordinates were rounded.
 
 ghost use Rattle.std.specs.Prelude.{◌≡◌, ◌≤◌, ◌++◌, length, Some, IfOk, IfSome, OnOk};
+ghost use Rattle.command_words.specs.Meaning.{IsUnit};
 ghost use Rattle.grid_coords.specs.Choice.{most_decimals};
 ghost use Rattle.grid_coords.specs.Origins.{IsNear};
 ghost use Rattle.node_files.specs.Limits.{AreIndexable};
 ghost use Rattle.refining.specs.Rounds.{IsPrintable};
 ghost use Rattle.run_steps.specs.Reading.{IsSound};
 ghost use Rattle.tetfit_run.specs.Hints.{hinted_facet_text, first_facet, grid_hint, parts_text};
-ghost use Rattle.tetfit_run.specs.Hints.{grid_front, grid_help, grid_line, is_rounded, parts_help, IsGridOf};
-ghost use Rattle.tetfit_run.specs.Hints.{flat_line, flat_text, half_unit, moved_line, moved_text};
+ghost use Rattle.tetfit_run.specs.Hints.{grid_front, grid_help, grid_line, has_more_decimals, is_rounded};
+ghost use Rattle.tetfit_run.specs.Hints.{parts_help, IsGridOf};
+ghost use Rattle.tetfit_run.specs.Hints.{decimals_moved, flat_line, flat_text, half_unit, moved_line, moved_text};
 ghost use Rattle.tetfit_run.specs.Hints.{rounded_line, rounded_text, rounding_text, uneven_text};
 ghost use Rattle.tetfit_run.specs.Hints.{segment_line, segment_lines, HasPoints, IsHint, IsHintBy, IsLineIn, IsLineOf};
 ghost use Rattle.tetfit_run.specs.Hints.{IsMissing, TellsCrossing, TellsRounded, TellsSegment, TellsSegments};
@@ -28,6 +30,7 @@ use crate::places::{
     append_four, append_name, append_narrow, append_near, append_part, off_grid_text,
 };
 use crate::trial::Trial;
+use crate::unit_texts::{append_multiples, append_unit_moved};
 use crate::wholes::whole_of;
 use command_words::Options;
 use geo_laws::{Complex, Piece, Tet};
@@ -167,18 +170,20 @@ fn append_fewer(text: &mut Bytes, decimals: u32, most: u32) -> Result<(), NoMemo
     }
 }
 
-/// Appends that coordinates were rounded, where the points of the file have more decimals than the
-/// options.
+/// Appends that coordinates were rounded: to multiples of the unit, where the options have one, or
+/// where the points of the file have more decimals than the options.
 fn append_rounding(
     text: &mut Bytes,
     options: &Options,
     points: &[DecimalPoint],
 ) -> Result<(), NoMemory>
+    requires { IfSome options.now.unit IsUnit }
     ensures { OnOk result (text.new ≡ text.old ++ rounding_text options.now points.now) }
 {
-    match options.decimals {
-        Some(decimals) => append_fewer(text, decimals, most_decimals(points)),
-        None => Ok(()),
+    match (options.unit, options.decimals) {
+        (Some(unit), _) => append_multiples(text, unit),
+        (None, Some(decimals)) => append_fewer(text, decimals, most_decimals(points)),
+        (None, None) => Ok(()),
     }
 }
 
@@ -271,19 +276,36 @@ fn append_moved(text: &mut Bytes, decimals: u32) -> Result<(), NoMemory>
     text.append(b"\n")
 }
 
-/// The line that says by how much rounding to `decimals` decimals moved a coordinate at most, where
-/// a point of the file has more.
+/// Appends by how much rounding to `decimals` decimals moved a coordinate at most, where a point
+/// has more.
+fn append_decimals_moved(
+    text: &mut Bytes,
+    decimals: u32,
+    points: &[DecimalPoint],
+) -> Result<(), NoMemory>
+    ensures { OnOk result (text.new ≡ text.old ++ decimals_moved decimals points.now) }
+{
+    if decimals < most_decimals(points) {
+        append_moved(text, decimals)
+    } else {
+        Ok(())
+    }
+}
+
+/// The lines that say by how much rounding moved a coordinate at most: to multiples of the unit of
+/// the options, where they have one, and to `decimals` decimals, where a point has more.
 pub(crate) fn moved_text(
     alloc: Global,
+    options: &Options,
     decimals: u32,
     points: &[DecimalPoint],
 ) -> Result<Bytes, NoMemory>
-    ensures { IfOk result (λ lines. lines ≡ moved_text decimals points.now) }
+    requires { IfSome options.now.unit IsUnit }
+    ensures { IfOk result (λ lines. lines ≡ moved_text options.now decimals points.now) }
 {
     let mut text = Bytes::new(alloc);
-    if decimals < most_decimals(points) {
-        append_moved(&mut text, decimals)?;
-    }
+    append_unit_moved(&mut text, options.unit)?;
+    append_decimals_moved(&mut text, decimals, points)?;
     Ok(text)
 }
 
@@ -345,14 +367,22 @@ fn parts_hint(
     Ok(text)
 }
 
-/// Whether the points of the file have more decimals than coordinates were rounded to.
-fn is_rounded(options: &Options, points: &[DecimalPoint]) -> bool
-    ensures { result ≡ is_rounded options.now.decimals (most_decimals points.now) }
+/// Whether the points have more decimals than coordinates were rounded to.
+fn has_more_decimals(decimals: Option<u32>, points: &[DecimalPoint]) -> bool
+    ensures { result ≡ has_more_decimals decimals (most_decimals points.now) }
 {
-    match options.decimals {
+    match decimals {
         Some(decimals) => decimals < most_decimals(points),
         None => false,
     }
+}
+
+/// Whether coordinates were rounded: to multiples of a unit, or to fewer decimals than the points
+/// have.
+fn is_rounded(options: &Options, points: &[DecimalPoint]) -> bool
+    ensures { result ≡ is_rounded options.now (most_decimals points.now) }
+{
+    options.unit.is_some() || has_more_decimals(options.decimals, points)
 }
 
 /// What would help two parts that cross once coordinates are rounded, or as they are in the file.

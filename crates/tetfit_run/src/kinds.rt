@@ -13,6 +13,9 @@ pub(crate) const SAMPLE: &[u8] = b"--sample=";
 /// The front of the long word that bounds the halvings of the grid.
 pub(crate) const HALVINGS: &[u8] = b"--halvings=";
 
+/// The front of the long word that gives the unit to whose multiples coordinates are rounded.
+pub(crate) const UNIT: &[u8] = b"--unit=";
+
 /// The front of the word that bounds the volume of tetrahedra; alone it asks for the limits of
 /// regions.
 pub(crate) const VOLUME: &[u8] = b"-a";

@@ -36,6 +36,9 @@ mod stages;
 mod told;
 mod trial;
 mod trying;
+mod unit_texts;
+mod unit_words;
+mod units;
 mod wanted;
 mod wholes;
 

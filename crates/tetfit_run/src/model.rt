@@ -9,14 +9,17 @@ ghost use Rattle.tet_ports.specs.Seen.{IsOnlyRead, folder_seen};
 ghost use Rattle.run_steps.specs.Steps.{AndThen, Gives};
 ghost use Rattle.tetfit_run.specs.Keyword.{TellsBadText};
 ghost use Rattle.tetfit_run.specs.Models.{named_surface, surface_form, surface_text_of};
+ghost use Rattle.command_words.specs.Meaning.{IsUnit};
 ghost use Rattle.grid_coords.specs.Origins.{IsNear};
 ghost use Rattle.plc_files.specs.Checks.{corners_check};
 ghost use Rattle.tetfit_run.specs.Measured.{complex_from, most_tried, moved_model, origin_in, MovedAnswer};
 ghost use Rattle.tetfit_run.specs.Models.{input_in, stated_of, IsStatedBy, IsStatedInSurface};
 ghost use Rattle.tetfit_run.specs.Models.{ModelAnswer, MovedFrom, SurfaceInputAnswer};
+ghost use Rattle.tetfit_run.specs.Units.{input_by};
 
 use crate::grids::most_tried;
 use crate::keyword::keyword_text;
+use crate::units::each_by;
 use command_words::{Extension, Options};
 use grid_coords::{WholePoint, origin_of};
 use node_files::Limits;
@@ -25,6 +28,7 @@ use run_steps::{ComplexFile, Fetched, Input, Status, fetch, read_input, with_poi
 use soup_files::{is_binary_stl, read_binary_stl, read_wide_off, read_wide_stl};
 use std::alloc::Global;
 use tet_ports::{Bytes, Folder, Name, NoMemory};
+use tet_text::Decimal;
 
 /// The unit in which places in the model's file are counted.
 #[derive(Clone, Copy, Debug, PartialEq, Eq)]
@@ -39,8 +43,8 @@ pub(crate) enum Stated {
 /// file are counted, from 1.
 #[derive(Drop)]
 pub(crate) struct Model {
-    /// The points as the file has them, and the complex, whose hole points and region points are
-    /// measured from the origin.
+    /// The points as the file has them, or rounded to multiples of a unit, and the complex, whose
+    /// hole points and region points are measured from the origin.
     pub(crate) input: Input,
     /// The point from which coordinates are measured, where it is not zero.
     pub(crate) origin: Option<WholePoint>,
@@ -105,34 +109,77 @@ fn moved_model(input: Input, stated: Stated) -> Result<Model, NoMemory>
     })
 }
 
-/// The model with the input that was read, and the unit of the places of its points.
-fn with_stated(read: Result<Input, Status>, stated: Stated) -> Result<Model, Status>
-    requires { IfOk read IsSound }
-    ensures input { MovedFrom read (input_in result) }
+/// The input with its points rounded to multiples of the unit, where there is one.
+fn input_by(alloc: Global, unit: Option<Decimal>, input: Input) -> Result<Input, NoMemory>
+    requires unit { IfSome unit IsUnit }
+    requires sound { IsSound input }
+    ensures value { IfOk result (λ made. made ≡ input_by unit input) }
+    ensures sound { IfOk result IsSound }
+{
+    let Some(unit) = unit else {
+        return Ok(input);
+    };
+    let mut made = input;
+    made.nodes.decimals = each_by(alloc, unit, made.nodes.decimals.as_slice())?;
+    Ok(made)
+}
+
+/// The model of an input, in the unit, where there is one.
+fn model_by(
+    alloc: Global,
+    unit: Option<Decimal>,
+    input: Input,
+    stated: Stated,
+) -> Result<Model, NoMemory>
+    requires unit { IfSome unit IsUnit }
+    requires sound { IsSound input }
+    ensures value { IfOk result (λ model. model.input ≡ moved_model (input_by unit input)) }
+    ensures stated { IfOk result (λ model. model.stated ≡ stated) }
+    ensures sound { IfOk result (λ model. IsSound model.input) }
+    ensures origin { IfOk result (λ model. model.origin ≡ origin_in model.input) }
+    ensures near { IfOk result (λ model. IfSome model.origin (IsNear (most_tried model.input))) }
+{
+    let input = input_by(alloc, unit, input)?;
+    moved_model(input, stated)
+}
+
+/// The model with the input that was read, its points rounded to multiples of the unit, where there
+/// is one, and the unit of the places of its points.
+fn with_stated(
+    alloc: Global,
+    unit: Option<Decimal>,
+    read: Result<Input, Status>,
+    stated: Stated,
+) -> Result<Model, Status>
+    requires unit { IfSome unit IsUnit }
+    requires sound { IfOk read IsSound }
+    ensures input { MovedFrom unit read (input_in result) }
     ensures stated { IfOk result (λ model. model.stated ≡ stated) }
     ensures sound { IfOk result (λ model. IsSound model.input) }
     ensures origin { IfOk result (λ model. model.origin ≡ origin_in model.input) }
     ensures near { IfOk result (λ model. IfSome model.origin (IsNear (most_tried model.input))) }
 {
     match read {
-        Ok(input) => Ok(moved_model(input, stated)?),
+        Ok(input) => Ok(model_by(alloc, unit, input, stated)?),
         Err(status) => Err(status),
     }
 }
 
-/// The model of the surface in a file. Where it refuses the text of an `.off` file whose keyword is
-/// not read, the line on that keyword is in `hint`.
+/// The model of the surface in a file, in the unit, where there is one. Where it refuses the text
+/// of an `.off` file whose keyword is not read, the line on that keyword is in `hint`.
 fn read_surface<F: Folder>(
     alloc: Global,
     limits: Limits,
+    unit: Option<Decimal>,
     named: &NamedSurface,
     folder: &mut F,
     hint: &mut Bytes,
 ) -> Result<Model, Status>
-    requires { AreIndexable limits }
+    requires limits { AreIndexable limits }
+    requires unit { IfSome unit IsUnit }
     ensures answer { AndThen (SurfaceInputAnswer limits
         (folder_seen F.state folder.old folder.new) named.now.name.now named.now.base.now
-        named.now.form) MovedAnswer (input_in result) }
+        named.now.form) (MovedAnswer unit) (input_in result) }
     ensures stated { IfOk result (λ model. IsStatedInSurface
         (folder_seen F.state folder.old folder.new) named.now.name.now named.now.form
         model.stated) }
@@ -149,13 +196,14 @@ fn read_surface<F: Folder>(
     let stated = stated_of(named.form, &file.bytes);
     let surface = surface_of(alloc, named.form, file)?;
     let read = with_points(alloc, limits, named.base, surface, folder);
-    with_stated(read, stated)
+    with_stated(alloc, unit, read, stated)
 }
 
 /// The model that the options name: as `read_input` reads it, but that an `.off` or `.stl` file is
 /// the one with this name, and is read in the wide grammar (`read_wide_off`, `read_wide_stl`), and
-/// an `.stl` file may be a binary one, which is known by its length; with its hole points and
-/// region points measured from its origin. Each file is fetched once. It refuses as `read_input`
+/// an `.stl` file may be a binary one, which is known by its length; with its points rounded to
+/// multiples of the unit, where the options have one, and its hole points and region points
+/// measured from its origin. Each file is fetched once. It refuses as `read_input`
 /// does, and stores nothing; where it refuses the text of an `.off` file whose keyword is not read,
 /// the line on that keyword is in `hint`.
 pub(crate) fn read_model<F: Folder>(
@@ -168,6 +216,7 @@ pub(crate) fn read_model<F: Folder>(
 ) -> Result<Model, Status>
     requires limits { AreIndexable limits }
     requires sample { IfSome options.now.sample (λ n. n ≤ 10000) }
+    requires unit { IfSome options.now.unit IsUnit }
     requires none { hint.old ≡ [] }
     ensures answer { ModelAnswer limits
         (folder_seen F.state folder.old folder.new) name.now options.now (input_in result) }
@@ -184,11 +233,11 @@ pub(crate) fn read_model<F: Folder>(
         Some(form) => {
             let base = &options.base;
             let named = NamedSurface { name, base, form };
-            read_surface(alloc, limits, &named, folder, hint)
+            read_surface(alloc, limits, options.unit, &named, folder, hint)
         }
         None => {
             let read = read_input(alloc, limits, options, folder);
-            with_stated(read, Stated::Lines)
+            with_stated(alloc, options.unit, read, Stated::Lines)
         }
     }
 }

@@ -174,7 +174,12 @@ fn told_outputs<W: Watch>(
     ensures shown { SeesRounds W.shown watch.old watch.new }
 {
     let last = final_outputs(alloc, wanted, input, fitted, watch)?;
-    let more = moved_text(alloc, last.decimals, input.nodes.decimals.as_slice())?;
+    let more = moved_text(
+        alloc,
+        &wanted.options,
+        last.decimals,
+        input.nodes.decimals.as_slice(),
+    )?;
     Ok(outputs_at(last, more))
 }
 
@@ -250,7 +255,12 @@ fn refused_outputs<W: Watch>(
 {
     let input = &model.input;
     if let Some(last) = conformed_outputs(alloc, wanted, input, &refused, watch)? {
-        let more = moved_text(alloc, last.decimals, input.nodes.decimals.as_slice())?;
+        let more = moved_text(
+            alloc,
+            &wanted.options,
+            last.decimals,
+            input.nodes.decimals.as_slice(),
+        )?;
         return Ok(outputs_at(last, more));
     }
     *hint = hint_of(alloc, fit_limits(), &wanted.options, model, &refused)?;

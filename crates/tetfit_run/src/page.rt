@@ -44,6 +44,8 @@ name.1.face.\n\
 \x20       no file; a word of its own, as -rC, beside which only -Q goes\n\
 \x20 h     this page; a word of its own, as --help\n\
 \x20 --decimals=<m>  round to m decimals, from 0 to 20, and try no others\n\
+\x20 --unit=<U>      round to multiples of U, as 0.002, and try no other unit; in place\n\
+\x20                 of --decimals\n\
 \x20 --halvings=<n>  halve the grid at most n times, from 0 to 18\n\
 \x20 --msh           write name.1.msh, the whole mesh for Gmsh and solvers\n\
 \x20 --version       the version\n\

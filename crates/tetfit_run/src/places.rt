@@ -171,7 +171,7 @@ pub(crate) fn append_part(
 
 /// Appends a number of units of the last of `decimals` decimals.
 #[tactic(auto, unfolding(crate::specs::Hints::units_text))]
-fn append_units(text: &mut Bytes, decimals: u32, units: u32) -> Result<(), NoMemory>
+pub(crate) fn append_units(text: &mut Bytes, decimals: u32, units: u32) -> Result<(), NoMemory>
     ensures { OnOk result (text.new ≡ text.old ++ units_text decimals units) }
 {
     let (size, scale) = lowest(u128::from(units), u64::from(decimals));

@@ -5,7 +5,7 @@ ghost use Rattle.tetfit_run.specs.Reasons.{beside_reason, cluster_reason, long_r
 ghost use Rattle.tetfit_run.specs.Texts.{reason_text};
 
 use crate::kinds::{DECIMALS, HALVINGS, SAMPLE, byte_at, is_cluster, is_long, is_name};
-use crate::request::{is_shape, is_volume, keeps_boundary};
+use crate::request::{is_shape, is_unit, is_volume, keeps_boundary};
 use tet_ports::Words;
 
 /// Why a word is not understood.
@@ -51,6 +51,8 @@ pub enum Reason {
     OwnWord,
     /// The long word for the sample, which only the program for exact texts has.
     Sample,
+    /// No unit behind `--unit=`.
+    Unit,
     /// No number, or too great a one, behind S, `--decimals=` or `--halvings=`.
     Number,
     /// A hyphen alone.
@@ -96,6 +98,7 @@ impl Reason {
             Reason::BesideCheck => b"only -Q and a name go with -rC",
             Reason::OwnWord => b"this letter is a word of its own, with its hyphen",
             Reason::Sample => b"the sample is meshed by tetgen",
+            Reason::Unit => b"a unit above 0 with at most 3 digits and 20 decimals is wanted",
             Reason::Number => b"a number within its limit is wanted",
             Reason::NoSwitch => b"a switch is wanted behind the hyphen",
             Reason::EmptyWord => b"the word is empty",
@@ -166,6 +169,8 @@ fn long_reason(word: &[u8]) -> Reason
 {
     if word.starts_with(SAMPLE) {
         Reason::Sample
+    } else if is_unit(word) {
+        Reason::Unit
     } else if word.starts_with(DECIMALS) || word.starts_with(HALVINGS) {
         Reason::Number
     } else {

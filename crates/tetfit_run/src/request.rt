@@ -3,9 +3,9 @@
 ghost use Rattle.std.specs.Prelude.{◌≡◌, ◌+◌, ◌++◌, ◌<◌, ℕ, filter, length, Some, None, Err, IfOk, IfSome, OnOk, position};
 ghost use Rattle.command_words.specs.Meaning.{AreInRange};
 ghost use Rattle.command_words.specs.declared.fault.WordsFault.TheVariants.{Usage};
-ghost use Rattle.tetfit_run.specs.Words.{request_of, asks_check, is_check, asks_limits, asks_page, asks_stages, asks_version, elsewhere_in, first_elsewhere, asks_elsewhere, is_bounding, is_letter_elsewhere, is_of_goal, is_own, is_plain, is_shape, is_volume, keeps_boundary, named_fault, others, plain_fault, plain_options, plain_words, told_fault, IsPlainRequest};
+ghost use Rattle.tetfit_run.specs.Words.{request_of, asks_check, is_check, asks_limits, asks_page, asks_stages, asks_version, elsewhere_in, first_elsewhere, asks_elsewhere, is_bounding, is_letter_elsewhere, is_of_goal, is_own, is_plain, is_shape, is_unit, is_volume, keeps_boundary, named_fault, others, plain_fault, plain_options, plain_words, told_fault, IsPlainRequest};
 
-use crate::kinds::{BOUNDARY, SAMPLE, SHAPE, VOLUME, is_cluster};
+use crate::kinds::{BOUNDARY, SAMPLE, SHAPE, UNIT, VOLUME, is_cluster};
 use command_words::{Options, WordsFault, has_word, is_format, is_word, read_words_within};
 use std::alloc::Global;
 use tet_ports::{Name, NoMemory, Words};
@@ -113,11 +113,18 @@ fn is_of_goal(word: &[u8]) -> bool
     is_bounding(word) || keeps_boundary(word)
 }
 
+/// Whether the word gives the unit to whose multiples coordinates are rounded.
+pub(crate) fn is_unit(word: &[u8]) -> bool
+    ensures { result ≡ is_unit word.now }
+{
+    word.starts_with(UNIT)
+}
+
 /// Whether the word is of this program alone, and not about the stages.
 fn is_own(word: &[u8]) -> bool
     ensures { result ≡ is_own word.now }
 {
-    is_of_goal(word) || is_format(word)
+    is_of_goal(word) || is_unit(word) || is_format(word)
 }
 
 /// Whether the word is of the grammar of the program that meshes exact texts.

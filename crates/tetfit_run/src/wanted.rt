@@ -7,9 +7,10 @@ ghost use Rattle.tetfit_run.specs.Words.{IsPlainRequest, IsRefinable, among_all}
 ghost use Rattle.tetfit_run.specs.Words.{fit_fault, fit_wanted, halvings_for, plain_words};
 
 use crate::check_words::name_of;
-use crate::goal::{asks_region_limits, bad_bound, fit_goal, goal_fault};
+use crate::goal::{asks_region_limits, fit_goal, goal_fault};
 use crate::names::all_in_small;
 use crate::request::{MOST_HALVINGS, plain_words, read_options};
+use crate::unit_words::{bad_word, decimals_of_unit, fit_unit, more_than_one};
 use command_words::{Options, WordsFault, formats_of};
 use refining::Goal;
 use std::alloc::Global;
@@ -64,10 +65,10 @@ fn halvings_for(second_order: bool, options: &Options) -> u32
 /// `Usage` exactly where a word begins with `-a` and something else than a number above 0 with at
 /// most 36 decimals is behind that, or one begins with `-q` and something else than a number from
 /// 1 to 100 with at most 4 decimals is behind that, with degrees from 0 to 30 behind a slash where
-/// there is one, with the first such word; or where the other
-/// words are refused by `read_options`, with its fault; or where a bound is given for a model
-/// without facets, with the first bound; or where `-Y` is given without a bound, with the first
-/// `-Y`.
+/// there is one, or one begins with `--unit=` and something else than a number above 0 of at most
+/// three digits and 20 decimals is behind that, with the first such word; or where the other words
+/// are refused by `read_options`, with its fault; or where a bound is given for a model without
+/// facets, with the first bound; or where `-Y` is given without a bound, with the first `-Y`.
 pub fn read_wanted(alloc: Global, words: &Words) -> Result<Wanted, WordsFault>
     ensures understood { IfOk result (λ wanted. fit_fault words.now ≡ None) }
     ensures wanted { IfOk result (λ wanted. wanted ≡ fit_wanted words.now) }
@@ -77,7 +78,7 @@ pub fn read_wanted(alloc: Global, words: &Words) -> Result<Wanted, WordsFault>
     ensures plain { IfOk result (λ wanted. IsPlainRequest wanted.options) }
     ensures refinable { IfOk result IsRefinable }
 {
-    if let Some(i) = bad_bound(words) {
+    if let Some(i) = bad_word(words) {
         return Err(WordsFault::Usage {
             word: i + 1,
             place: 3,
@@ -92,6 +93,9 @@ pub fn read_wanted(alloc: Global, words: &Words) -> Result<Wanted, WordsFault>
     options.formats = formats_of(words);
     options.halvings = halvings_for(options.formats.second_order, &options);
     options.regions = options.regions || asks_region_limits(words);
+    let unit = fit_unit(words);
+    options.decimals = decimals_of_unit(unit, options.decimals);
+    options.unit = more_than_one(unit);
     let goal = fit_goal(words);
     if let Some((word, place)) = goal_fault(words, &goal, options.piecewise) {
         return Err(WordsFault::Usage { word, place });

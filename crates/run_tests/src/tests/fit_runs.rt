@@ -199,7 +199,7 @@ tetfit: coordinates were rounded to 35 decimals, of 36 that the file has\n\
 tetfit: four points that are not in one plane are wanted\n";
 
 /// The message on a model beside the status.
-static TOLD: [Run<'static>; 16] = [
+static TOLD: [Run<'static>; 17] = [
     Run {
         name: "off each grid",
         held: &[(b"t.node", &[FAR])],
@@ -212,6 +212,18 @@ static TOLD: [Run<'static>; 16] = [
         held: &[(b"t.node", &[WIDE])],
         words: &[b"--decimals=6", b"t.node"],
         end: Refused(5, WIDE_TOLD),
+        files: &[],
+    },
+    Run {
+        name: "points in one plane, as multiples of a unit",
+        held: &[(b"r.node", &[ROUGH])],
+        words: &[b"--unit=3", b"r.node"],
+        end: Refused(
+            6,
+            b"tetfit: all points lie in one plane\n\
+              tetfit: coordinates were rounded to multiples of 3\n\
+              tetfit: four points that are not in one plane are wanted\n",
+        ),
         files: &[],
     },
     Run {
@@ -333,7 +345,12 @@ const MINUTE_NODE: &[u8] = b"4 3 0 0\n1 0 0 0\n\
       2 0.00000000000000000000000015 0 0\n\
       3 0 0.0000000000000000000000001 0\n4 0 0 0.0000000000000000000000001\n";
 
-static FITS: [Run<'static>; 10] = [
+/// A tetrahedron with a coordinate halfway between two multiples of 0.002.
+const ROUGH: &[u8] = b"4 3 0 0\n0 -0.003 0 0\n1 1.0049 0 0\n2 0 1.00501 0\n3 0 0 1.0039999\n";
+
+const ROUGH_NODE: &[u8] = b"4 3 0 0\n0 -0.004 0 0\n1 1.004 0 0\n2 0 1.006 0\n3 0 0 1.004\n";
+
+static FITS: [Run<'static>; 11] = [
     Run {
         name: "many decimals",
         held: &[(b"t.node", &[TINY])],
@@ -371,6 +388,16 @@ static FITS: [Run<'static>; 10] = [
         words: &[b"--decimals=3", b"t"],
         end: Told(b"points 4 added 0 tetrahedra 1 faces 4 edges 6 decimals 1\n"),
         files: &[(b"t.1.node", Some(NODE))],
+    },
+    Run {
+        name: "multiples of a unit",
+        held: &[(b"r.node", &[ROUGH])],
+        words: &[b"--unit=0.002", b"r.node"],
+        end: Told(
+            b"points 4 added 0 tetrahedra 1 faces 4 edges 6 decimals 3\n\
+              tetfit: rounding to multiples of 0.002 moved each coordinate by at most 0.001\n",
+        ),
+        files: &[(b"r.1.node", Some(ROUGH_NODE))],
     },
     Run {
         name: "a model in units of 10^-25",

@@ -5,7 +5,7 @@ use crate::tests::harness::Program::Tetfit;
 use crate::tests::harness::{Run, other_run};
 use std::test::Fail;
 
-static TOLD: [Run<'static>; 11] = [
+static TOLD: [Run<'static>; 12] = [
     Run {
         name: "the version",
         held: &[],
@@ -74,6 +74,17 @@ static TOLD: [Run<'static>; 11] = [
         end: Refused(
             1,
             b"tetfit: --decimals=21: a number within its limit is wanted\n",
+        ),
+        files: &[],
+    },
+    Run {
+        name: "a unit of four digits",
+        held: &[],
+        words: &[b"--unit=0.1234", b"x.off"],
+        end: Refused(
+            1,
+            b"tetfit: --unit=0.1234: \
+              a unit above 0 with at most 3 digits and 20 decimals is wanted\n",
         ),
         files: &[],
     },

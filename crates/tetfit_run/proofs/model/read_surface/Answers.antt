@@ -30,7 +30,7 @@ returns-clause-answer g c =
     let one : IsWithin first wide = first_within F.state c.args.folder.now c.fetch.new.folder c.with_points-read.new.folder b.only_read in
     let two : IsWithin second wide = last_within F.state c.args.folder.now c.fetch.new.folder c.with_points-read.new.folder a.only_read in
     let read = surface_fetched l first name form c.in_ok-asked.asked file.name file.bytes (Ok surface) (c.in_ok-asked.ensures ∙ c.as_slice.ensures) a.named a.read c.in_ok-surface.ensures.answer in
-    moved_on (SurfaceInputAnswer l wide name base form) c.with_points-read.result (input_in c.with_stated.result)
+    moved_on c.args.unit (SurfaceInputAnswer l wide name base form) c.with_points-read.result (input_in c.with_stated.result)
     (and_then_ok (SurfaceAnswer l wide name form) (λ f. AndThen (NodesAnswer l wide base f.text.nodes) (BoundedAnswer f)) surface c.with_points-read.result
     (surface_wider l first wide one name form (Ok surface) read) (bounded_wider l second wide two base surface c.with_points-read.result b.answer)) c.with_stated.ensures.input
 

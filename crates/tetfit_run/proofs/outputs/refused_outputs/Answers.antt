@@ -1,4 +1,4 @@
-use Rattle.std.proofs.Common.{◌≡◌, List, Option, Ok, refl, sym, subst}
+use Rattle.std.proofs.Common.{◌≡◌, List, Option, Ok, refl, sym, subst, arith}
 use Rattle.std.specs.Prelude.{IfSome}
 use Rattle.grid_coords.specs.declared.points.DecimalPoint.{DecimalPoint}
 use Rattle.tetfit_run.specs.Hints.{moved_text}
@@ -13,6 +13,9 @@ hint_of-requires-clause-ranges g c =
     let decimals = c.args.refused.decimals in
     c.requires.ranges decimals (tried_few c.args.wanted.now.options c.args.model.now.input decimals c.requires.refused.0.within)
 
+pub moved_text-requires : goal.moved_text-requires
+moved_text-requires g c = (c.requires.ranges 0 (omega arith)).unit
+
 pub returns-in-Some-clause-made : goal.returns-in-Some-clause-made
 returns-in-Some-clause-made g c =
     let wanted = c.args.wanted.now in
@@ -20,7 +23,7 @@ returns-in-Some-clause-made g c =
     let last = c.in-Some.last in
     let more = c.in_ok-more.more in
     let final = subst (λ (made : Option Fitted). IfSome made (λ final. IsConformedBy wanted.goal wanted.options input final.decimals final.outputs)) c.in-Some.is c.in_ok-last.ensures.made in
-    let moved = subst (λ (ps : List DecimalPoint). more ≡ moved_text last.decimals ps) c.as_slice.ensures c.in_ok-more.ensures in
+    let moved = subst (λ (ps : List DecimalPoint). more ≡ moved_text wanted.options last.decimals ps) c.as_slice.ensures c.in_ok-more.ensures in
     subst (λ o. IsFittedTo wanted input (Ok o)) (sym c.outputs_at.ensures) (conformed_told wanted input last.decimals last.outputs more final moved)
 
 pub returns-clause-stopped : goal.returns-clause-stopped
