@@ -1,6 +1,6 @@
 //! Circumspheres of tetrahedra and equatorial spheres of triangles, with centers rounded to the
 //! grid.
-use crate::spot::{Spot, distance, rounded};
+use crate::spot::{Spot, distance, times};
 
 /// A sphere by its center, rounded to the grid, and the square of the distance from there to a
 /// corner.
@@ -17,21 +17,50 @@ impl Sphere {
     }
 }
 
-/// The nearest whole number to a quotient, where it is at most `2^30` in size.
-fn near_quotient(n: i128, d: i128) -> Option<i64> {
-    let q = rounded(n, d);
-    if q.unsigned_abs() > 1 << 30 {
-        return None;
-    }
-    Some(q as i64)
+/// A divisor above 0 with its 32 leading bits, or all where it has fewer.
+#[derive(Clone, Copy)]
+struct Divisor {
+    whole: u128,
+    leading: u64,
+    /// How many bits are behind the leading ones.
+    behind: u32,
 }
 
-/// The sphere through a corner whose center is three numbers over a divisor away.
+impl Divisor {
+    /// The divisor with this value.
+    fn new(d: i128) -> Divisor {
+        let whole = d.unsigned_abs();
+        let behind = 96_u32.saturating_sub(whole.leading_zeros());
+        Divisor {
+            whole,
+            leading: u64::try_from(whole.wrapping_shr(behind)).unwrap_or(0),
+            behind,
+        }
+    }
+
+    /// The nearest whole number to a quotient, where it is at most `2^30` in size. A quotient by
+    /// the leading bits is not less, and below `2^31` it is at most one more.
+    fn near_quotient(&self, n: i128) -> Option<i64> {
+        let raised = n.unsigned_abs().wrapping_add(self.whole / 2);
+        let high = u64::try_from(raised.wrapping_shr(self.behind)).ok()?;
+        let most = high.checked_div(self.leading)?;
+        let is_over = u128::from(most).wrapping_mul(self.whole) > raised;
+        let q = most.wrapping_sub(u64::from(is_over));
+        if q > 1 << 30 {
+            return None;
+        }
+        let q = q as i64;
+        Some(if n < 0 { q.wrapping_neg() } else { q })
+    }
+}
+
+/// The sphere through a corner whose center is three numbers over a divisor above 0 away.
 fn sphere_at(corner: Spot, x: i128, y: i128, z: i128, d: i128) -> Option<Sphere> {
+    let divisor = Divisor::new(d);
     let offset = Spot {
-        x: near_quotient(x, d)?,
-        y: near_quotient(y, d)?,
-        z: near_quotient(z, d)?,
+        x: divisor.near_quotient(x)?,
+        y: divisor.near_quotient(y)?,
+        z: divisor.near_quotient(z)?,
     };
     Some(Sphere {
         center: corner.plus(offset),
@@ -42,19 +71,17 @@ fn sphere_at(corner: Spot, x: i128, y: i128, z: i128, d: i128) -> Option<Sphere>
 /// The squares of three lengths.
 #[derive(Clone, Copy)]
 struct Squares {
-    b: i128,
-    c: i128,
-    d: i128,
+    b: i64,
+    c: i64,
+    d: i64,
 }
 
 impl Squares {
     /// The sum of the products with three coordinates of cross products. Each square is at most `3
     /// * 2^60` and each coordinate at most `2^61`, so the sum is below `2^125`.
     fn weigh(self, x: i64, y: i64, z: i64) -> i128 {
-        let first = self.b.wrapping_mul(i128::from(x));
-        let second = self.c.wrapping_mul(i128::from(y));
-        let third = self.d.wrapping_mul(i128::from(z));
-        first.wrapping_add(second).wrapping_add(third)
+        let plane = times(self.b, x).wrapping_add(times(self.c, y));
+        plane.wrapping_add(times(self.d, z))
     }
 }
 
@@ -76,9 +103,9 @@ fn to_center(corners: &[Spot; 4]) -> Option<Quotient> {
     let (b, c, d) = (b.from(a), c.from(a), d.from(a));
     let (cd, db, bc) = (c.cross(d), d.cross(b), b.cross(c));
     let squares = Squares {
-        b: b.dot(b),
-        c: c.dot(c),
-        d: d.dot(d),
+        b: b.squared().cast_signed(),
+        c: c.squared().cast_signed(),
+        d: d.squared().cast_signed(),
     };
     let divisor = bc.dot(d).wrapping_mul(2);
     if divisor <= 0 {
