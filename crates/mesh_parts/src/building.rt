@@ -1,13 +1,14 @@
 //! A mesh from its points, tetrahedra and subfaces.
 use crate::mesh::{Beyond, Cell, Link, Mesh, Subface};
 use crate::spot::{Spot, spot_of, volume};
+use crate::table::order_by;
 use geo_laws::{Face, FacetTriangle, FacetTriangles, Points, Side, Tet, TetList, face_of, side_of};
 use incidence::{Across, pair_faces};
 use std::alloc::Global;
 use tet_ports::NoMemory;
 
 /// An edge of a subface, with the subface and the place of the corner opposite.
-#[derive(Clone, Copy, PartialEq, Eq, PartialOrd, Ord)]
+#[derive(Clone, Copy)]
 struct FaceEdge {
     side: Side,
     subface: u32,
@@ -24,51 +25,63 @@ fn own_corner(t: &FacetTriangle, own: usize) -> Option<u32> {
     }
 }
 
-/// A corner of the complex in the facet of the first triangle of a list, among the triangles of
-/// this facet that come first.
-fn anchor_of(triangles: &[FacetTriangle], own: usize) -> Option<u32> {
-    let facet = triangles.first()?.facet;
+/// The number of facets up to the last one that has a triangle.
+fn facets_of(triangles: &[FacetTriangle]) -> usize {
+    let mut count = 0_usize;
     for t in triangles {
-        if t.facet != facet {
-            return None;
-        }
-        if let Some(corner) = own_corner(t, own) {
-            return Some(corner);
+        count = count.max((t.facet as usize).saturating_add(1));
+    }
+    count
+}
+
+/// For each facet a corner of the complex in it: that of the first triangle that has one.
+fn anchors_of(
+    alloc: Global,
+    triangles: &[FacetTriangle],
+    facets: usize,
+    own: usize,
+) -> Result<Vec<Option<u32>>, NoMemory> {
+    let mut anchors = Vec::new(alloc);
+    anchors.resize(facets, None)?;
+    for t in triangles {
+        let facet = t.facet as usize;
+        if facet < anchors.len() && anchors[facet].is_none() {
+            anchors[facet] = own_corner(t, own);
         }
     }
-    None
+    Ok(anchors)
 }
 
-/// The triangles, facet by facet.
-fn by_facet(alloc: Global, triangles: &FacetTriangles) -> Result<Vec<FacetTriangle>, NoMemory> {
-    let mut sorted = Vec::from_slice(alloc, triangles.as_slice())?;
-    sorted.sort()?;
-    Ok(sorted)
+/// The triangles in the order of their corners, and those with the same ones in that of their
+/// facets.
+fn by_corners(
+    alloc: Global,
+    triangles: &[FacetTriangle],
+    facets: usize,
+    points: usize,
+) -> Result<Vec<FacetTriangle>, NoMemory> {
+    let by_facet = order_by(alloc, triangles, facets, |t| t.facet)?;
+    let by_c = order_by(alloc, by_facet.as_slice(), points, |t| t.c)?;
+    let by_b = order_by(alloc, by_c.as_slice(), points, |t| t.b)?;
+    order_by(alloc, by_b.as_slice(), points, |t| t.a)
 }
 
-/// The subfaces in the order of their corners. `own` is the number of corners of the complex.
+/// The subfaces of triangles. `own` is the number of corners of the complex.
 fn subfaces_of(
     alloc: Global,
-    triangles: &FacetTriangles,
+    triangles: &[FacetTriangle],
+    facets: usize,
     own: usize,
 ) -> Result<Vec<Subface>, NoMemory> {
-    let sorted = by_facet(alloc, triangles)?;
-    let mut subfaces = Vec::with_capacity(alloc, sorted.len())?;
-    let mut last = None;
-    let mut anchor = None;
-    for i in 0..sorted.len() {
-        let t = sorted[i];
-        if last != Some(t.facet) {
-            last = Some(t.facet);
-            anchor = anchor_of(sorted.get(i..).unwrap_or(&[]), own);
-        }
+    let anchors = anchors_of(alloc, triangles, facets, own)?;
+    let mut subfaces = Vec::with_capacity(alloc, triangles.len())?;
+    for t in triangles {
         subfaces.push(Subface {
             face: face_of(t.a, t.b, t.c),
             facet: t.facet,
-            anchor,
+            anchor: anchors.get(t.facet as usize).copied().flatten(),
         })?;
     }
-    subfaces.sort()?;
     Ok(subfaces)
 }
 
@@ -81,8 +94,8 @@ fn faces_of(alloc: Global, subfaces: &[Subface]) -> Result<Vec<Face>, NoMemory> 
     Ok(faces)
 }
 
-/// The edges of the subfaces, in order.
-fn face_edges(alloc: Global, faces: &[Face]) -> Result<Vec<FaceEdge>, NoMemory> {
+/// The edges of the subfaces, in the order of their ends.
+fn face_edges(alloc: Global, faces: &[Face], points: usize) -> Result<Vec<FaceEdge>, NoMemory> {
     let mut edges = Vec::new(alloc);
     for i in 0..faces.len() {
         let Face { a, b, c } = faces[i];
@@ -95,8 +108,8 @@ fn face_edges(alloc: Global, faces: &[Face]) -> Result<Vec<FaceEdge>, NoMemory> 
             })?;
         }
     }
-    edges.sort()?;
-    Ok(edges)
+    let by_second = order_by(alloc, edges.as_slice(), points, |edge| edge.side.b)?;
+    order_by(alloc, by_second.as_slice(), points, |edge| edge.side.a)
 }
 
 /// The number of edges at the beginning of a list that are one edge.
@@ -167,8 +180,13 @@ impl Links {
 }
 
 /// What is across the edges of the subfaces, and the subsegments.
-fn links_of(alloc: Global, faces: &[Face], subfaces: &[Subface]) -> Result<Links, NoMemory> {
-    let edges = face_edges(alloc, faces)?;
+fn links_of(
+    alloc: Global,
+    faces: &[Face],
+    subfaces: &[Subface],
+    points: usize,
+) -> Result<Links, NoMemory> {
+    let edges = face_edges(alloc, faces, points)?;
     let mut links = Links {
         links: Vec::new(alloc),
         subsegments: Vec::new(alloc),
@@ -276,14 +294,22 @@ pub fn mesh_of(
     triangles: &FacetTriangles,
     own: usize,
 ) -> Result<Mesh, NoMemory> {
-    let subfaces = subfaces_of(alloc, triangles, own)?;
+    let facets = facets_of(triangles.as_slice());
+    let ordered = by_corners(alloc, triangles.as_slice(), facets, points.len())?;
+    let subfaces = subfaces_of(alloc, ordered.as_slice(), facets, own)?;
     let faces = faces_of(alloc, subfaces.as_slice())?;
-    let Links { links, subsegments } = links_of(alloc, faces.as_slice(), subfaces.as_slice())?;
+    let Links { links, subsegments } = links_of(
+        alloc,
+        faces.as_slice(),
+        subfaces.as_slice(),
+        points.len(),
+    )?;
     let on_boundary = marked(alloc, points.len(), faces.as_slice())?;
     let mut mesh = Mesh {
         spots: spots_of(alloc, points)?,
         cells: Vec::new(alloc),
         subfaces,
+        facets,
         faces,
         links,
         subsegments,

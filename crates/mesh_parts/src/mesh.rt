@@ -43,7 +43,7 @@ pub enum Link {
 }
 
 /// A subface: its corners, its facet, and a corner of the complex in the facet if there is one.
-#[derive(Clone, Copy, PartialEq, Eq, PartialOrd, Ord)]
+#[derive(Clone, Copy)]
 pub struct Subface {
     pub(crate) face: Face,
     pub facet: u32,
@@ -51,14 +51,15 @@ pub struct Subface {
 }
 
 /// The places of the points, the tetrahedra, the subfaces in the order of their corners with what
-/// is across the edge opposite each corner, the subsegments in order, for each point whether it is
-/// the corner of a subface, and for each tetrahedron its greatest six-fold volume, where volumes
-/// are bounded.
+/// is across the edge opposite each corner, the number of facets up to the last one that has a
+/// subface, the subsegments in order, for each point whether it is the corner of a subface, and for
+/// each tetrahedron its greatest six-fold volume, where volumes are bounded.
 #[derive(Drop)]
 pub struct Mesh {
     pub spots: Vec<Spot>,
     pub cells: Vec<Cell>,
     pub subfaces: Vec<Subface>,
+    pub facets: usize,
     pub(crate) faces: Vec<Face>,
     pub(crate) links: Vec<[Link; 3]>,
     pub subsegments: Vec<Side>,

@@ -115,7 +115,8 @@ fn corners_on_segments(
             }
         }
     }
-    Table::new(alloc, entries, mesh.subsegments.len())
+    let (keys, values) = (mesh.subsegments.len(), mesh.spots.len());
+    Table::new(alloc, entries.as_slice(), keys, values)
 }
 
 /// Appends the facets at a corner of the complex.
@@ -127,15 +128,6 @@ fn note_facets_at(stars: &Stars, v: u32, entries: &mut Vec<Entry>) -> Result<(),
         })?;
     }
     Ok(())
-}
-
-/// The number of facets, of those that have subfaces.
-pub(crate) fn facets_of(mesh: &Mesh) -> usize {
-    let mut count = 0_usize;
-    for subface in mesh.subfaces.as_slice() {
-        count = count.max((subface.facet as usize).saturating_add(1));
-    }
-    count
 }
 
 /// The corners of the complex in each facet.
@@ -150,7 +142,7 @@ fn corners_in_facets(
         let Ok(v) = u32::try_from(i) else { break };
         note_facets_at(stars, v, &mut entries)?;
     }
-    Table::new(alloc, entries, facets_of(mesh))
+    Table::new(alloc, entries.as_slice(), mesh.facets, mesh.spots.len())
 }
 
 /// The segment of a subsegment as a part.

@@ -1,7 +1,7 @@
 //! Segments and facets that meet at less than 60 degrees.
 use crate::field::Field;
 use crate::mesh::Mesh;
-use crate::parts::{Part, Parts, facets_of, other_end};
+use crate::parts::{Part, Parts, other_end};
 use crate::spot::{Spot, is_within_60, is_within_75};
 use crate::table::{Entry, Table};
 use geo_laws::{Face, Side};
@@ -144,7 +144,7 @@ pub(crate) fn folds_of(alloc: Global, mesh: &Mesh, parts: &Parts) -> Result<Tabl
         let Ok(e) = u32::try_from(i) else { break };
         note_fold(mesh, e, few(parts.stars.beside.at(e)), &mut entries)?;
     }
-    Table::new(alloc, entries, facets_of(mesh))
+    Table::new(alloc, entries.as_slice(), mesh.facets, mesh.facets)
 }
 
 impl<'a> Field<'a> {

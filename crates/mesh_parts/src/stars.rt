@@ -51,7 +51,7 @@ fn facets_at(alloc: Global, mesh: &Mesh) -> Result<Table, NoMemory> {
     for subface in mesh.subfaces.as_slice() {
         entries.extend_from_slice(&at_corners(&subface.face, subface.facet))?;
     }
-    Table::new(alloc, entries, mesh.spots.len())
+    Table::new(alloc, entries.as_slice(), mesh.spots.len(), mesh.facets)
 }
 
 /// The subfaces at each subsegment.

@@ -60,19 +60,10 @@ fn vertices_of(alloc: Global, field: &Field, own: usize) -> Result<Vec<Vertex>, 
     Ok(vertices)
 }
 
-/// The number of facets, of those that have subfaces.
-fn facets_of(mesh: &Mesh) -> usize {
-    let mut count = 0_usize;
-    for subface in mesh.subfaces.as_slice() {
-        count = count.max((subface.facet as usize).saturating_add(1));
-    }
-    count
-}
-
 /// The planes of the facets.
 fn planes_of(alloc: Global, mesh: &Mesh) -> Result<Vec<Option<Plane>>, NoMemory> {
     let mut planes = Vec::new(alloc);
-    planes.resize(facets_of(mesh), None)?;
+    planes.resize(mesh.facets, None)?;
     for i in 0..mesh.subfaces.len() {
         let Ok(s) = u32::try_from(i) else { break };
         let place = mesh.subfaces[i].facet as usize;
