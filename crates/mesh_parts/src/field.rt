@@ -4,19 +4,20 @@ use crate::parts::Parts;
 use crate::sharp::folds_of;
 use crate::sphere::{Sphere, circumsphere};
 use crate::spot::Spot;
-use crate::table::{Entry, Table};
+use crate::table::{Entry, Table, turned};
 use std::alloc::Global;
 use tet_ports::NoMemory;
 
 /// A mesh, the circumspheres of its tetrahedra where their centers are near, its parts, for each
-/// facet those that it meets at less than 60 degrees, and the tetrahedra at each subsegment and
-/// beside each subface.
+/// facet those that it meets at less than 60 degrees, the subsegments of each tetrahedron, and the
+/// tetrahedra at each subsegment and beside each subface.
 #[derive(Drop)]
 pub struct Field<'a> {
     pub mesh: &'a Mesh,
     pub(crate) spheres: Vec<Option<Sphere>>,
     pub parts: Parts,
     pub(crate) folds: Table,
+    pub edges: Table,
     pub around: Table,
     pub beside: Table,
 }
@@ -35,13 +36,13 @@ fn spheres_of(alloc: Global, mesh: &Mesh) -> Result<Vec<Option<Sphere>>, NoMemor
     Ok(spheres)
 }
 
-/// Notes a tetrahedron at its subsegments.
-fn note_edges(mesh: &Mesh, value: u32, entries: &mut Vec<Entry>) -> Result<(), NoMemory> {
-    let Some(cell) = mesh.cell(value) else {
+/// Notes the subsegments of a tetrahedron.
+fn note_edges(mesh: &Mesh, key: u32, entries: &mut Vec<Entry>) -> Result<(), NoMemory> {
+    let Some(cell) = mesh.cell(key) else {
         return Ok(());
     };
     for side in cell.edges() {
-        if let Some(key) = mesh.subsegment_of(side) {
+        if let Some(value) = mesh.subsegment_of(side) {
             entries.push(Entry { key, value })?;
         }
     }
@@ -61,14 +62,14 @@ fn note_faces(mesh: &Mesh, value: u32, entries: &mut Vec<Entry>) -> Result<(), N
     Ok(())
 }
 
-/// The tetrahedra at each subsegment.
-fn around_of(alloc: Global, mesh: &Mesh) -> Result<Table, NoMemory> {
+/// The subsegments of the tetrahedra.
+fn edges_of(alloc: Global, mesh: &Mesh) -> Result<Vec<Entry>, NoMemory> {
     let mut entries = Vec::new(alloc);
     for i in 0..mesh.cells.len() {
         let Ok(place) = u32::try_from(i) else { break };
         note_edges(mesh, place, &mut entries)?;
     }
-    Table::of_ascending(alloc, entries.as_slice(), mesh.subsegments.len())
+    Ok(entries)
 }
 
 /// The tetrahedra beside each subface.
@@ -86,12 +87,15 @@ impl<'a> Field<'a> {
     pub fn new(alloc: Global, mesh: &'a Mesh, own: usize) -> Result<Self, NoMemory> {
         let parts = Parts::new(alloc, mesh, own)?;
         let folds = folds_of(alloc, mesh, &parts)?;
+        let edges = edges_of(alloc, mesh)?;
+        let around = turned(alloc, edges.as_slice())?;
         Ok(Field {
             mesh,
             spheres: spheres_of(alloc, mesh)?,
             parts,
             folds,
-            around: around_of(alloc, mesh)?,
+            edges: Table::in_order(alloc, edges.as_slice(), mesh.cells.len())?,
+            around: Table::of_ascending(alloc, around.as_slice(), mesh.subsegments.len())?,
             beside: beside_of(alloc, mesh)?,
         })
     }

@@ -139,6 +139,6 @@ pub(crate) fn hiding_subfaces(
         hiding.note_cell(*t)?;
     }
     let Hiding { mut found, .. } = hiding;
-    found.sort()?;
+    found.sort_unstable();
     Ok(found)
 }

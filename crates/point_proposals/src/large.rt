@@ -125,7 +125,7 @@ fn larges_of(alloc: Global, mesh: &Mesh, level: Level) -> Result<Larges, NoMemor
         let Ok(place) = u32::try_from(i) else { break };
         larges.note(mesh, place, level)?;
     }
-    larges.all.sort()?;
+    larges.all.sort_unstable();
     Ok(larges)
 }
 

@@ -190,10 +190,10 @@ impl<'a> Refiner<'a> {
         if answer != Answer::Refused {
             return Ok(answer);
         }
-        self.grow_in_facet(at)?;
         if !self.is_off_subsegments(found.as_slice(), at.spot, lengths.shortest) {
             return Ok(Answer::Refused);
         }
+        self.grow_in_facet(at)?;
         self.take_encroaching(at.spot, lengths)
     }
 
@@ -304,8 +304,13 @@ impl<'a> Refiner<'a> {
     }
 
     /// Proposes the circumcenter of a tetrahedron, or a point of the boundary in place of it.
-    fn try_center(&mut self, t: u32, lengths: &Lengths) -> Result<Answer, NoMemory> {
-        match self.center(t) {
+    fn try_center(
+        &mut self,
+        t: u32,
+        center: Option<(Spot, End)>,
+        lengths: &Lengths,
+    ) -> Result<Answer, NoMemory> {
+        match center {
             Some((p, End::Inside(at))) => self.try_inside(at, p, lengths),
             Some((_, End::Wall(s))) => {
                 let answer = self.try_hidden(t, lengths)?;
@@ -326,10 +331,11 @@ impl<'a> Refiner<'a> {
         }
         self.is_last = false;
         self.region.asks_by = false;
-        if self.try_center(asked.place, &asked.lengths)? == Answer::Refused {
+        let center = self.center(asked.place);
+        if self.try_center(asked.place, center, &asked.lengths)? == Answer::Refused {
             self.is_last = true;
             self.region.asks_by = true;
-            self.try_center(asked.place, &asked.lengths)?;
+            self.try_center(asked.place, center, &asked.lengths)?;
         }
         Ok(())
     }

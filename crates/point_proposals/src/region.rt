@@ -150,7 +150,7 @@ impl Region {
         for t in self.cells.as_slice() {
             note_encroached_edges(field, *t, p, found)?;
         }
-        found.sort()?;
+        found.sort_unstable();
         found.dedup();
         Ok(())
     }
@@ -165,7 +165,7 @@ impl Region {
         for t in self.cells.as_slice() {
             note_encroached_faces(field, *t, p, found)?;
         }
-        found.sort()?;
+        found.sort_unstable();
         found.dedup();
         Ok(())
     }
@@ -178,15 +178,10 @@ fn note_encroached_edges(
     p: Spot,
     found: &mut Vec<Ranked>,
 ) -> Result<(), NoMemory> {
-    let Some(cell) = field.mesh.cell(t) else {
-        return Ok(());
-    };
-    for side in cell.edges() {
-        if let Some((a, b)) = field.mesh.ends_of(side) {
+    for e in field.edges.at(t) {
+        if let Some((a, b)) = field.mesh.ends(*e) {
             if is_in_diametral(a, b, p) {
-                if let Some(e) = field.mesh.subsegment_of(side) {
-                    found.push(Ranked::new(e, distance(a, b)))?;
-                }
+                found.push(Ranked::new(*e, distance(a, b)))?;
             }
         }
     }

@@ -189,6 +189,6 @@ pub(crate) fn asked_of(
             all.push(asked)?;
         }
     }
-    all.sort()?;
+    all.sort_unstable();
     Ok(all)
 }
