@@ -5,7 +5,7 @@ use crate::sine::{has_sine_over, least_sine};
 use crate::site::Site;
 use crate::tally::Tally;
 use geo_laws::{Face, Side, face_of, side_of};
-use mesh_parts::{Spot, circumsphere, volume};
+use mesh_parts::{Spot, circumsphere};
 use std::alloc::Global;
 use tet_ports::NoMemory;
 
@@ -69,7 +69,7 @@ fn is_joined(live: &Live, p: Spot, site: &Site, least: u64, wall: &Wall) -> bool
     let [a, b, c] = corners;
     let is_flank = !site.facets.is_empty();
     let walls = [is_flank, is_flank, is_flank, wall.across.facet.is_some()];
-    volume(a, b, c, p) > 0 && has_sine_over(&[a, b, c, p], walls, least)
+    has_sine_over(&[a, b, c, p], walls, least)
 }
 
 /// The sides of a face.
@@ -262,7 +262,7 @@ impl Cavity {
         if self.floors.is_empty() {
             return Ok(());
         }
-        self.floors.sort()?;
+        self.floors.sort_unstable();
         self.floors.dedup();
         for i in 0..self.floors.len() {
             let Some(floor) = self.floors.get(i).copied() else {
@@ -270,7 +270,7 @@ impl Cavity {
             };
             self.note_floor(&floor, site)?;
         }
-        self.rims.sort()?;
+        self.rims.sort_unstable();
         keep_single(&mut self.rims);
         Ok(())
     }
@@ -343,14 +343,18 @@ impl Cavity {
         Some(sine)
     }
 
-    /// How many of the tetrahedra between the boundary and the place break the bounds.
-    pub(crate) fn tally(&self, live: &Live, p: Spot) -> Option<Tally> {
+    /// How many of the tetrahedra between the boundary and the place break the bounds, where no
+    /// more do than are allowed.
+    pub(crate) fn tally(&self, live: &Live, p: Spot, allowed: Tally) -> Option<Tally> {
         let mut tally = Tally::none();
         for wall in self.walls.as_slice() {
             let [a, b, c] = live.triangle(&wall.face)?;
             let s = [a, b, c, p];
             let is_slim = live.bounds.is_slim(&s, circumsphere(&s));
             tally = tally.with(is_slim, is_large(&s, wall.most));
+            if !tally.is_within(allowed) {
+                return None;
+            }
         }
         Some(tally)
     }

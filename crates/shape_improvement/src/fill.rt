@@ -160,7 +160,7 @@ impl Fill {
         if !self.put_facets(alloc, live, star)? {
             return Ok(false);
         }
-        self.candidates.sort()?;
+        self.candidates.sort_unstable();
         self.candidates.dedup();
         Ok(true)
     }
@@ -292,7 +292,7 @@ impl Fill {
 
     /// Links the tetrahedra on both sides of the facets of the point.
     fn link_floors(&mut self, live: &mut Live) -> Result<(), NoMemory> {
-        self.floors.sort()?;
+        self.floors.sort_unstable();
         let mut last: Option<Floor> = None;
         for floor in self.floors.as_slice() {
             if let Some(other) = last {

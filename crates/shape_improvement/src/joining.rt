@@ -99,7 +99,7 @@ pub(crate) fn join_all(
 ) -> Result<bool, NoMemory> {
     let mut flanks = Vec::new(alloc);
     let new = join_walls(alloc, live, cavity, v, &mut flanks)?;
-    flanks.sort()?;
+    flanks.sort_unstable();
     if !link_all(live, cavity, flanks.as_slice()) {
         live.discard(new.as_slice())?;
         return Ok(false);

@@ -196,7 +196,7 @@ impl Mover {
             return Ok(None);
         };
         let allowed = allowed.plus(tally_of(&self.live, self.cavity.cells.as_slice()));
-        match self.cavity.tally(&self.live, p) {
+        match self.cavity.tally(&self.live, p, allowed) {
             Some(tally) if tally.is_within(allowed) => Ok(Some(sine.min(kept))),
             _ => Ok(None),
         }

@@ -82,7 +82,7 @@ impl Mover {
                 asked.push(Asked { sine, place })?;
             }
         }
-        asked.sort()?;
+        asked.sort_unstable();
         Ok(asked)
     }
 

@@ -1,5 +1,5 @@
 //! The least angle of a tetrahedron by the square of a sine.
-use mesh_parts::{Spot, opposite};
+use mesh_parts::Spot;
 use tet_shapes::Ratio;
 
 /// The square of the sine of a right angle.
@@ -15,10 +15,8 @@ pub(crate) fn aimed_sine(cosine: Option<Ratio>) -> u64 {
     sine.wrapping_add(RIGHT / 1600)
 }
 
-/// The normal of a face, shifted down to 15 bits.
-fn normal_of(s: &[Spot; 4], k: usize) -> Spot {
-    let [a, b, c] = opposite(s, k);
-    let n = b.from(a).cross(c.from(a));
+/// The vector shifted down to 15 bits.
+fn shortened(n: Spot) -> Spot {
     n.over_power(n.bits_above(15))
 }
 
@@ -53,27 +51,37 @@ fn is_over(u: Spot, v: Spot, least: u64, is_left_out: bool) -> bool {
     cosine.wrapping_mul(cosine) < most.wrapping_mul(lengths)
 }
 
-/// Whether the square of the sine of each dihedral angle of a tetrahedron is over `least`, those
-/// between two of the walls left out.
+/// Whether a tetrahedron is positive and the square of the sine of each dihedral angle is over
+/// `least`, those between two of the walls left out. The normals of the faces, each into the
+/// tetrahedron, have the sum 0.
 pub(crate) fn has_sine_over(s: &[Spot; 4], walls: [bool; 4], least: u64) -> bool {
     let [p, q, r, t] = walls;
-    let (d, a, b) = (normal_of(s, 3), normal_of(s, 0), normal_of(s, 1));
-    if !is_over(a, d, least, p && t) || !is_over(b, d, least, q && t) {
+    let (u, v, w) = (s[1].from(s[0]), s[2].from(s[0]), s[3].from(s[0]));
+    let last = u.cross(v);
+    if last.dot(w) <= 0 {
         return false;
     }
-    let c = normal_of(s, 2);
-    is_over(c, d, least, r && t)
+    let (second, third) = (v.cross(w), w.cross(u));
+    let (b, c, d) = (shortened(second), shortened(third), shortened(last));
+    if !is_over(b, d, least, q && t) || !is_over(c, d, least, r && t) {
+        return false;
+    }
+    let a = shortened(second.plus(third).plus(last).by(-1));
+    is_over(a, d, least, p && t)
+        && is_over(b, c, least, q && r)
         && is_over(a, b, least, p && q)
         && is_over(a, c, least, p && r)
-        && is_over(b, c, least, q && r)
 }
 
 /// The least square of the sine of a dihedral angle of a tetrahedron, those between two of the
-/// walls left out. It stands for how well shaped the tetrahedron is.
+/// walls left out. It stands for how well shaped the tetrahedron is. The normals of the faces, each
+/// into the tetrahedron, have the sum 0.
 pub(crate) fn least_sine(s: &[Spot; 4], walls: [bool; 4]) -> u64 {
     let [p, q, r, t] = walls;
-    let (a, b) = (normal_of(s, 0), normal_of(s, 1));
-    let (c, d) = (normal_of(s, 2), normal_of(s, 3));
+    let (u, v, w) = (s[1].from(s[0]), s[2].from(s[0]), s[3].from(s[0]));
+    let (second, third, last) = (v.cross(w), w.cross(u), u.cross(v));
+    let a = shortened(second.plus(third).plus(last).by(-1));
+    let (b, c, d) = (shortened(second), shortened(third), shortened(last));
     sine_unless(a, b, p && q)
         .min(sine_unless(a, c, p && r))
         .min(sine_unless(a, d, p && t))

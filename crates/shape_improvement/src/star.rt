@@ -176,9 +176,9 @@ impl Star {
                 return Ok(false);
             }
         }
-        self.opposites.sort()?;
+        self.opposites.sort_unstable();
         self.opposites.dedup();
-        self.borderings.sort()?;
+        self.borderings.sort_unstable();
         self.borderings.dedup();
         Ok(true)
     }
