@@ -325,7 +325,8 @@ fn taken_last<P: Propose, W: Watch>(
 const IMPROVEMENTS: u32 = 6;
 
 /// A mesh with other points in place of those of `taken` in a part of the model, where some are
-/// proposed and the complex has a mesh with them.
+/// proposed and the complex has a mesh with them. With the points that were added before, the mesh
+/// would be the one that is there: no other points are proposed then.
 fn next_improved<P: Propose>(
     alloc: Global,
     task: Task<'_>,
@@ -352,6 +353,13 @@ fn next_improved<P: Propose>(
     let added = addable(alloc, points, &none, &proposed, halvings, bounds.added)?;
     if added.is_empty() {
         return Ok(Turn::Done);
+    }
+    if added.as_slice() == taken.added.as_slice() {
+        return Ok(if part.is_whole() {
+            Turn::Done
+        } else {
+            Turn::Refused
+        });
     }
     meshed(alloc, options, bound, added, halvings, most_of(bounds))
 }
