@@ -45,27 +45,16 @@ pub record AreApart (points : List DecimalPoint) (by : Numbering) (one two : Pie
   pub on_grid : ArePlaced ends placed
   pub met : AreSegmentsMet one two placed
 
--- that fewer decimals may help, by whether the segments are apart in the file
-abbrev pub fewer_text : Bool → List ℕ
-fewer_text true = codes ", or try fewer decimals by --decimals=M"
-fewer_text false = codes ", or where the last digits alone make them cross, try fewer decimals by --decimals=M"
-
--- that fewer decimals may help, where coordinates are rounded to some decimals and there can be fewer
-abbrev pub fewer_help : Option ℕ → Bool → List ℕ
-fewer_help None apart = []
-fewer_help (Some m) apart = if nat_lt 0 m then fewer_text apart else []
-
 -- the advice on two segments that cross once coordinates are rounded: apart in the file, and not known to be
-abbrev pub crossing_front : Bool → List ℕ
-crossing_front true = codes "tetfit: they do not cross in the file, rounding made them: move them apart"
-crossing_front false = codes "tetfit: give both segments the point at which they cross"
+abbrev pub crossing_help : Bool → List ℕ
+crossing_help true =
+    codes "tetfit: they do not cross in the file, rounding made them: move them apart, or try coarser coordinates by --unit=U\n"
+crossing_help false =
+    codes "tetfit: give both segments the point at which they cross, "
+    ++ codes "or where the last digits alone make them cross, try coarser coordinates by --unit=U\n"
 
--- that advice, and that fewer decimals may help
-abbrev pub crossing_help : Option ℕ → Bool → List ℕ
-crossing_help decimals apart = crossing_front apart ++ fewer_help decimals apart ++ codes "\n"
-
--- the line on what would help two segments that cross once coordinates are rounded to so many decimals
-pub record TellsHelp (decimals : Option ℕ) (points : List DecimalPoint) (by : Numbering) (one two : Piece) (line : List ℕ) : Type 0 where
+-- the line on what would help two segments that cross once coordinates are rounded
+pub record TellsHelp (points : List DecimalPoint) (by : Numbering) (one two : Piece) (line : List ℕ) : Type 0 where
   pub apart : Bool
   pub is : apart ≡ true → AreApart points by one two
-  pub told : line ≡ crossing_help decimals apart
+  pub told : line ≡ crossing_help apart

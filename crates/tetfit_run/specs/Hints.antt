@@ -253,9 +253,9 @@ moved_text options m points = option_map_or unit_moved options.unit [] ++ decima
 
 -- ---- the lines
 
--- fewer decimals may help where the grid of a model has some, and fewer halvings than it may have
+-- coarser coordinates may help where the grid of a model has fewer halvings than it may have
 abbrev pub grid_help : ℕ → ModelGrid → List ℕ
-grid_help most grid = if nat_lt 0 grid.decimals && nat_lt grid.halvings most then codes ": try fewer decimals by --decimals=M" else []
+grid_help most grid = if nat_lt grid.halvings most then codes ": try coarser coordinates by --unit=U" else []
 
 -- how many decimals and halvings the grid of a model has
 abbrev pub grid_front : ModelGrid → List ℕ
@@ -304,7 +304,7 @@ abbrev pub parts_help : Bool → List ℕ
 parts_help false = codes "tetfit: give both parts the points in which they meet, or drop one of equal ones\n"
 parts_help true =
     codes "tetfit: if they meet in the file, give both the points in which they do, or drop one of equal ones\n"
-    ++ codes "tetfit: if not, rounding made them meet: move them apart, or try other decimals by --decimals=M\n"
+    ++ codes "tetfit: if not, rounding made them meet: move them apart, or try another rounding by --unit=U\n"
 
 -- the lines of two parts that cross, with what would help
 abbrev pub crossing_text : Options → List DecimalPoint → Numbering → Option Placed → Part → Part → List ℕ
@@ -321,7 +321,7 @@ pub record TellsCrossing (limits : Limits) (options : Options) (input : Input) (
 -- the lines of two segments, with what would help
 abbrev pub TellsSegments : Options → List DecimalPoint → Numbering → Piece → Piece → List ℕ → Type 0
 TellsSegments options points by one two lines =
-    (help : List ℕ) × TellsHelp options.decimals points by one two help
+    (help : List ℕ) × TellsHelp points by one two help
     × (lines ≡ parts_text options points by None (SegmentPart one) (SegmentPart two) ++ help)
 
 -- the lines that follow the message on an input with these options, refused with the status, its points numbered by
@@ -368,7 +368,7 @@ point_lines stated p = refusal_line stated p.line ++ point_line stated p
 abbrev pub help_of_grid : ℕ → List ℕ
 help_of_grid m =
     if m == 0 then codes "tetfit: no coordinate may be over 536870912 from the middle: scale the model down\n" else
-    codes "tetfit: no coordinate may be over 536870912 units of the last decimal from the middle: give fewer decimals\n"
+    codes "tetfit: no coordinate may be over 536870912 units of the last decimal from the middle: round to fewer decimals\n"
 
 -- the lines on a point off the grid at m decimals: its place, its coordinates, and what would help
 abbrev pub off_grid_lines : ℕ → Stated → DecimalPoint → List ℕ

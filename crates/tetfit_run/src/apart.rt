@@ -1,8 +1,8 @@
 //! Whether two segments that cross once coordinates are rounded are apart in the file.
 
-ghost use Rattle.std.specs.Prelude.{◌≡◌, ◌≢◌, ◌<◌, ◌++◌, true, length, IfOk, IfSome, OnOk};
+ghost use Rattle.std.specs.Prelude.{◌≡◌, ◌≢◌, ◌<◌, true, length, IfOk, IfSome};
 ghost use Rattle.geo_laws.specs.Delaunay.{point};
-ghost use Rattle.tetfit_run.specs.Apart.{crossing_front, crossing_help, end_place, fewer_help, fewer_text, AreApart, AreEndsInFile, ArePlaced, AreSegmentsMet};
+ghost use Rattle.tetfit_run.specs.Apart.{crossing_help, end_place, AreApart, AreEndsInFile, ArePlaced, AreSegmentsMet};
 
 use crate::places::file_point;
 use geo_laws::{Piece, Points, Side};
@@ -11,7 +11,7 @@ use mesh_check::{CheckFault, centered_points};
 use run_steps::Numbering;
 use simplex_meets::segments_met;
 use std::alloc::Global;
-use tet_ports::{Bytes, NoMemory};
+use tet_ports::NoMemory;
 
 /// The ends of two segments as the file has them, where all four are points of the file.
 fn ends_in_file(
@@ -95,47 +95,14 @@ pub(crate) fn are_apart(
 }
 
 /// The advice on two segments that cross once coordinates are rounded.
-fn crossing_front(apart: bool) -> &'static [u8]
-    ensures { result.now ≡ crossing_front apart }
+pub(crate) fn crossing_help(apart: bool) -> &'static [u8]
+    ensures { result.now ≡ crossing_help apart }
 {
     if apart {
-        b"tetfit: they do not cross in the file, rounding made them: move them apart"
+        b"tetfit: they do not cross in the file, rounding made them: \
+          move them apart, or try coarser coordinates by --unit=U\n"
     } else {
-        b"tetfit: give both segments the point at which they cross"
+        b"tetfit: give both segments the point at which they cross, \
+          or where the last digits alone make them cross, try coarser coordinates by --unit=U\n"
     }
-}
-
-/// That fewer decimals may help.
-fn fewer_text(apart: bool) -> &'static [u8]
-    ensures { result.now ≡ fewer_text apart }
-{
-    if apart {
-        b", or try fewer decimals by --decimals=M"
-    } else {
-        b", or where the last digits alone make them cross, try fewer decimals by --decimals=M"
-    }
-}
-
-/// That fewer decimals may help, where coordinates are rounded to some.
-fn fewer_help(decimals: Option<u32>, apart: bool) -> &'static [u8]
-    ensures { result.now ≡ fewer_help decimals apart }
-{
-    match decimals {
-        Some(m) => { if m > 0 { fewer_text(apart) } else { b"" } }
-        None => b"",
-    }
-}
-
-/// Appends the advice on two segments that cross once coordinates are rounded, and that fewer
-/// decimals may help.
-pub(crate) fn append_crossing_help(
-    text: &mut Bytes,
-    decimals: Option<u32>,
-    apart: bool,
-) -> Result<(), NoMemory>
-    ensures { OnOk result (text.new ≡ text.old ++ crossing_help decimals apart) }
-{
-    text.append(crossing_front(apart))?;
-    text.append(fewer_help(decimals, apart))?;
-    text.append(b"\n")
 }

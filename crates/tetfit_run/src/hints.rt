@@ -19,7 +19,7 @@ ghost use Rattle.tetfit_run.specs.Placed.{HasCrossing};
 ghost use Rattle.tetfit_run.specs.Trial.{AreInTriedRange};
 ghost use Rattle.tetfit_run.specs.Trying.{at_decimals, IsNumbered, IsNumberedAt};
 
-use crate::apart::{append_crossing_help, are_apart};
+use crate::apart::{are_apart, crossing_help};
 use crate::copies::{at_decimals, tried_nodes};
 use crate::facets::first_facet;
 use crate::fitting::Refused;
@@ -200,13 +200,13 @@ fn grid_of(alloc: Global, trial: &Trial, count: usize) -> Result<Grid, NoMemory>
     }
 }
 
-/// What may help where the grid is too coarse: fewer decimals, where it has some, and fewer
-/// halvings than it may have.
+/// What may help where the grid is too coarse: coarser coordinates, where it has fewer halvings
+/// than it may have.
 fn grid_help(most: u32, grid: Grid) -> &'static [u8]
     ensures { result.now ≡ grid_help most grid }
 {
-    if grid.decimals > 0 && grid.halvings < most {
-        b": try fewer decimals by --decimals=M"
+    if grid.halvings < most {
+        b": try coarser coordinates by --unit=U"
     } else {
         b""
     }
@@ -393,7 +393,7 @@ fn parts_help(rounded: bool) -> &'static [u8]
         b"tetfit: if they meet in the file, give both the points in which they do, \
           or drop one of equal ones\n\
           tetfit: if not, rounding made them meet: move them apart, \
-          or try other decimals by --decimals=M\n"
+          or try another rounding by --unit=U\n"
     } else {
         b"tetfit: give both parts the points in which they meet, or drop one of equal ones\n"
     }
@@ -433,7 +433,7 @@ fn segments_hint(
     let apart = are_apart(alloc, points, by, one, two)?;
     let (first, second) = (Part::Segment(one), Part::Segment(two));
     let mut text = parts_hint(alloc, trial, by, &None, first, second)?;
-    append_crossing_help(&mut text, trial.options.decimals, apart)?;
+    text.append(crossing_help(apart))?;
     Ok(text)
 }
 

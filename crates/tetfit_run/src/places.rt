@@ -349,7 +349,7 @@ fn help_of_grid(decimals: u32) -> &'static [u8]
         b"tetfit: no coordinate may be over 536870912 from the middle: scale the model down\n"
     } else {
         b"tetfit: no coordinate may be over 536870912 units of the last decimal from the middle: \
-          give fewer decimals\n"
+          round to fewer decimals\n"
     }
 }
 

@@ -104,14 +104,14 @@ const WIDE_TOLD: &[u8] = b"\
 tetfit: line 2: coordinate off the grid\n\
 tetfit: line 2 has (0 0 0)\n\
 tetfit: no coordinate may be over 536870912 units of the last decimal from the middle: \
-give fewer decimals\n";
+round to fewer decimals\n";
 
 const CROSSED_TOLD: &[u8] = b"\
 tetfit: segments 1 2 and 3 4 cross\n\
 tetfit: points 1 (0 0 0) 2 (2.5 2.5 0)\n\
 tetfit: points 3 (0 2 0) 4 (2 0 0)\n\
 tetfit: give both segments the point at which they cross, or where the last digits alone \
-make them cross, try fewer decimals by --decimals=M\n";
+make them cross, try coarser coordinates by --unit=U\n";
 
 const BEAM_TOLD: &[u8] = b"\
 tetfit: 1 splits used, segment 4 17 is missing\n\
@@ -157,7 +157,7 @@ tetfit: points 1 (0 0 0) 2 (2.5 2.5 0)\n\
 tetfit: points 3 (0 2 0) 4 (2 0 0)\n\
 tetfit: coordinates were rounded to 8 decimals, of 9 that the file has\n\
 tetfit: give both segments the point at which they cross, or where the last digits alone \
-make them cross, try fewer decimals by --decimals=M\n";
+make them cross, try coarser coordinates by --unit=U\n";
 
 const GRAZED_TOLD: &[u8] = b"\
 tetfit: segments 1 2 and 3 4 cross\n\
@@ -165,7 +165,7 @@ tetfit: points 1 (0 0 0) 2 (0.25 0.25 0)\n\
 tetfit: points 3 (0 0.2 0.000000004) 4 (0.2 0 0.000000004)\n\
 tetfit: coordinates were rounded to 8 decimals, of 9 that the file has\n\
 tetfit: they do not cross in the file, rounding made them: \
-move them apart, or try fewer decimals by --decimals=M\n";
+move them apart, or try coarser coordinates by --unit=U\n";
 
 /// A triangle that a corner of another one is below, and above once coordinates are whole.
 const PIERCED: &[u8] = b"\
@@ -180,7 +180,7 @@ tetfit: coordinates were rounded to 0 decimals, of 1 that the file has\n\
 tetfit: if they meet in the file, give both the points in which they do, \
 or drop one of equal ones\n\
 tetfit: if not, rounding made them meet: move them apart, \
-or try other decimals by --decimals=M\n";
+or try another rounding by --unit=U\n";
 
 /// Two triangles that cross once points are added on their sides.
 const HALVED: &[u8] = b"\

@@ -7,11 +7,10 @@ use Rattle.tetfit_run.proofs.hints.segments_hint.Goals as goal
 pub returns : goal.returns
 returns c =
     let apart = c.in_ok-apart.apart in
-    let help = crossing_help c.args.trial.now.options.decimals apart in
-    let decimals = ap (λ (t : TrialValue). t.options.decimals) c.trial.view_is in
+    let help = crossing_help apart in
     let points : c.as_slice-points.result.now ≡ c.args.trial.now.input.nodes.decimals =
     c.as_slice-points.ensures ∙ ap (λ (t : TrialValue). t.input.nodes.decimals) c.trial.view_is in (
       help,
       record { apart = apart; is = λ e. subst (λ (points : List DecimalPoint). AreApart points c.args.by.now c.args.one c.args.two) points (c.in_ok-apart.ensures e); told = refl },
-      c.in_ok-append_crossing_help.ensures ∙ ap (λ d. c.in_ok-text.text ++ crossing_help d apart) decimals ∙ ap (λ (xs : List ℕ). xs ++ help) c.in_ok-text.ensures,
+      c.in_ok-append.ensures.ok ∙ ap (λ line. c.in_ok-text.text ++ line) c.crossing_help.ensures ∙ ap (λ (xs : List ℕ). xs ++ help) c.in_ok-text.ensures,
     )
