@@ -68,3 +68,4 @@ pub mod SameInputs
 pub mod OneRun
 pub mod AsTetgen
 pub mod OneFit
+pub mod WithinHalf

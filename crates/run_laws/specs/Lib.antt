@@ -23,3 +23,4 @@ pub mod Constrained
 pub mod OneMesh
 pub mod AsTetgen
 pub mod OneFit
+pub mod Rounded

@@ -13,6 +13,7 @@ mod inputs;
 mod least_grids;
 mod measured;
 mod reread;
+mod rounded;
 mod single_answers;
 mod sound;
 mod sound_meshes;
@@ -33,6 +34,7 @@ pub use reread::{
     law_checked_back, law_ele_read, law_face_read, law_listed, law_neigh_read, law_node_read,
     law_read_back,
 };
+pub use rounded::{law_multiple_near, law_rounded_near};
 pub use single_answers::{law_one_fit, law_one_left, law_one_meshed, law_one_outputs, law_one_run};
 pub use sound::{law_apart, law_sound};
 pub use sound_meshes::{law_sound_complex, law_sound_points};
