@@ -1,8 +1,8 @@
 //! Whether two segments that cross once coordinates are rounded are apart in the file.
 
-ghost use Rattle.std.specs.Prelude.{◌≡◌, ◌≢◌, ◌<◌, true, length, IfOk, IfSome};
+ghost use Rattle.std.specs.Prelude.{◌≡◌, ◌≢◌, ◌<◌, ◌↔◌, true, length, IfOk};
 ghost use Rattle.geo_laws.specs.Delaunay.{point};
-ghost use Rattle.tetfit_run.specs.Apart.{crossing_help, end_place, AreApart, AreEndsInFile, ArePlaced, AreSegmentsMet};
+ghost use Rattle.tetfit_run.specs.Apart.{crossing_help, end_place, ends_in_file, AreApart, ArePlaced, AreSegmentsMet};
 
 use crate::places::file_point;
 use geo_laws::{Piece, Points, Side};
@@ -21,8 +21,7 @@ fn ends_in_file(
     one: Piece,
     two: Piece,
 ) -> Result<Option<DecimalPoints>, NoMemory>
-    ensures { IfOk result
-        (λ found. IfSome found (AreEndsInFile points.now by.now one two)) }
+    ensures { IfOk result (λ found. found ≡ ends_in_file points.now by.now one two) }
 {
     let (Some(a), Some(b)) = (file_point(points, by, one.a), file_point(points, by, one.b)) else {
         return Ok(None);
@@ -55,7 +54,7 @@ fn end_place(one: Piece, n: u32, own: u32) -> u32
 fn has_length(placed: &Points, s: Side) -> bool
     requires a_on { s.a < length placed.now }
     requires b_on { s.b < length placed.now }
-    ensures { result ≡ true → point placed.now s.a ≢ point placed.now s.b }
+    ensures { (result ≡ true) ↔ (point placed.now s.a ≢ point placed.now s.b) }
 {
     placed.at(s.a as usize) != placed.at(s.b as usize)
 }
@@ -63,7 +62,7 @@ fn has_length(placed: &Points, s: Side) -> bool
 /// Whether the two segments, whose ends are placed so, have no common point but a common end.
 fn are_met(one: Piece, two: Piece, placed: &Points) -> bool
     requires { length placed.now ≡ 4 }
-    ensures { result ≡ true → AreSegmentsMet one two placed.now }
+    ensures { (result ≡ true) ↔ AreSegmentsMet one two placed.now }
 {
     let s = Side { a: 0, b: 1 };
     let t = Side {
@@ -73,7 +72,7 @@ fn are_met(one: Piece, two: Piece, placed: &Points) -> bool
     has_length(placed, s) && has_length(placed, t) && segments_met(placed, s, t)
 }
 
-/// Whether the two segments do not cross in the file; not told where an end is an added point, or
+/// Whether the two segments do not cross in the file; false where an end is an added point, or
 /// where the ends are on no grid of 2^29 units to each side of their middle.
 pub(crate) fn are_apart(
     alloc: Global,
@@ -82,7 +81,7 @@ pub(crate) fn are_apart(
     one: Piece,
     two: Piece,
 ) -> Result<bool, NoMemory>
-    ensures { IfOk result (λ apart. apart ≡ true → AreApart points.now by.now one two) }
+    ensures { IfOk result (λ apart. (apart ≡ true) ↔ AreApart points.now by.now one two) }
 {
     let Some(ends) = ends_in_file(alloc, points, by, one, two)? else {
         return Ok(false);
