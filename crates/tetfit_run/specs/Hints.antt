@@ -253,9 +253,9 @@ moved_text options m points = option_map_or unit_moved options.unit [] ++ decima
 
 -- ---- the lines
 
--- coarser coordinates may help where the grid of a model has fewer halvings than it may have
+-- fewer decimals may help where the grid of a model has some, and fewer halvings than it may have
 abbrev pub grid_help : ℕ → ModelGrid → List ℕ
-grid_help most grid = if nat_lt grid.halvings most then codes ": try coarser coordinates by --unit=U" else []
+grid_help most grid = if nat_lt 0 grid.decimals && nat_lt grid.halvings most then codes ": try fewer decimals by --unit=U" else []
 
 -- how many decimals and halvings the grid of a model has
 abbrev pub grid_front : ModelGrid → List ℕ

@@ -200,13 +200,13 @@ fn grid_of(alloc: Global, trial: &Trial, count: usize) -> Result<Grid, NoMemory>
     }
 }
 
-/// What may help where the grid is too coarse: coarser coordinates, where it has fewer halvings
-/// than it may have.
+/// What may help where the grid is too coarse: fewer decimals, where it has some, and fewer
+/// halvings than it may have.
 fn grid_help(most: u32, grid: Grid) -> &'static [u8]
     ensures { result.now ≡ grid_help most grid }
 {
-    if grid.halvings < most {
-        b": try coarser coordinates by --unit=U"
+    if grid.decimals > 0 && grid.halvings < most {
+        b": try fewer decimals by --unit=U"
     } else {
         b""
     }
